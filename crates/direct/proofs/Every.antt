@@ -1,0 +1,53 @@
+-- Classes of bytes: a class within another, a text behind another, and the classes of a detail line's bytes.
+-- Assumes nothing.
+use mathlib.Core.Path.{_≡_, refl}
+use mathlib.Core.List.{[], _∷_, _++_}
+use mathlib.Core.Bool.{Bool, true, false, not, _||_}
+use Prim.Native.Nat.{ℕ}
+use lib.Dec.{eqb}
+use borrow.Author.Tests.{ne-eqb}
+use Rattle.text.specs.Byte.{Bytes, isDigit, every}
+use Rattle.text.specs.Field.{comma}
+use Rattle.text.proofs.Truth.{apart, and-left, and-right, and-both}
+use Rattle.lines.specs.Line.{LF, CR}
+use Rattle.direct.specs.Direct.{notLF}
+use Rattle.direct.specs.Guess.{inValue}
+
+-- `inLine`: neither LF nor CR
+abbrev pub inLine : ℕ → Bool
+inLine b = not (eqb b LF || eqb b CR)
+
+pub every-append : (class : ℕ → Bool) (a b : Bytes) → every class a ≡ true → every class b ≡ true → every class (a ++ b) ≡ true
+unfolding every
+every-append class [] b h g = g
+every-append class (x ∷ a) b h g =
+    and-both (class x) (every class (a ++ b)) (and-left (class x) (every class a) h) (every-append class a b (and-right (class x) (every class a) h) g)
+
+every-within : (class wider : ℕ → Bool) → ((b : ℕ) → class b ≡ true → wider b ≡ true) → (s : Bytes) → every class s ≡ true → every wider s ≡ true
+unfolding every
+every-within class wider g [] h = refl
+every-within class wider g (b ∷ s) h =
+    and-both (wider b) (every wider s) (g b (and-left (class b) (every class s) h)) (every-within class wider g s (and-right (class b) (every class s) h))
+
+pub digits-plain : (s : Bytes) → every isDigit s ≡ true → every inValue s ≡ true
+digits-plain s h = every-within isDigit inValue (λ b g. rw g) s h
+
+-- a byte of a value is no byte that is none
+plain-not : (b c : ℕ) → inValue b ≡ true → inValue c ≡ false → eqb b c ≡ false
+plain-not b c h n = ne-eqb b c (λ e. apart (rw (e, n) at h))
+
+pub plain-comma : (b : ℕ) → inValue b ≡ true → eqb b comma ≡ false
+plain-comma b h = plain-not b comma h refl
+
+pub plain-line : (s : Bytes) → every inValue s ≡ true → every inLine s ≡ true
+plain-line s h = every-within inValue inLine (λ b g. rw (plain-not b LF g refl, plain-not b CR g refl)) s h
+
+pub line-LF : (s : Bytes) → every inLine s ≡ true → every notLF s ≡ true
+line-LF s h = every-within inLine notLF (λ b g. no-left (eqb b LF) (eqb b CR) g) s h
+  where
+    no-left : (p q : Bool) → not (p || q) ≡ true → not p ≡ true
+    no-left true q g = g
+    no-left false q g = refl
+
+pub line-CR : (b : ℕ) → inLine b ≡ true → eqb b CR ≡ false
+line-CR b h = ne-eqb b CR (λ e. apart (rw e at h))

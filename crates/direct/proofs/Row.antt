@@ -1,0 +1,237 @@
+-- A whole detail line, interval after interval, and that the row's rule gives the same for it.
+-- Assumes nothing.
+use mathlib.Core.Path.{_≡_, refl, ap, sym, _∙_}
+use mathlib.Core.List.{List, [], _∷_, _++_, append-assoc}
+use mathlib.Core.Bool.{Bool, true, false, not}
+use Prim.Native.Nat.{ℕ, suc, _+_, _*_, _/_, _%_, _<_, _≤_}
+use native.Mathlib.Omega.{arith}
+use native.Mathlib.Numerals.{add-one}
+use lib.ListN.{length, take, drop, getD, set, length-take}
+use lib.Seq.{getD-take, take-add, take-take, take-suc-set}
+use borrow.Author.Tests.{eq-eqb, le-ltb, not-false}
+use Rattle.text.specs.Byte.{Bytes, every, equals, startsWith}
+use Rattle.text.specs.Field.{comma, cut, inFront}
+use Rattle.text.specs.Number.{digitsOf}
+use Rattle.text.proofs.Truth.{and-left, and-right}
+use Rattle.text.proofs.Class.{digit-of}
+use Rattle.text.proofs.Equal.{equals-refl}
+use Rattle.lines.specs.Line.{LF, dropCR, endsWithCR, endedLine, isLong, lineLimit, kindOf}
+use Rattle.lines.specs.Outcome.{passed}
+use Rattle.lines.specs.Row.{fieldsOf}
+use Rattle.text.specs.Byte.{isEmpty}
+use Rattle.details.specs.Value.{valueOf}
+use Rattle.details.specs.Detail.{detailCode, statusOf, withEmpty, intervalOf, fourOf, detailOf, rowDetail}
+use Rattle.details.specs.declared.detail.Interval.{Interval}
+use Rattle.direct.specs.Direct.{DetailLine, directSays}
+use Rattle.direct.specs.Guess.{codeSize, windowSize, tailSize, tail, statusByte, inValue, valueSize, BeginsTriple, tripleSays}
+use Rattle.direct.specs.declared.Direct.{Direct}
+use Rattle.direct.specs.declared.Direct.the-variants.{Line, Other}
+use Rattle.direct.specs.declared.Triple.{Triple}
+use Rattle.direct.specs.declared.Triple.the-variants.{Read}
+use Rattle.direct.proofs.Every.{inLine, every-append, plain-comma, plain-line, line-LF, line-CR}
+
+-- ONE INTERVAL: s is its text, and then the rest
+pub record Next (s : Bytes) (i : Interval) (rest : Bytes) : Type 0 where
+  pub value : Bytes
+  pub plain : every inValue value ≡ true
+  pub worth : valueOf value ≡ passed (i .wh)
+  pub text : s ≡ value ++ (tail (statusByte (i .estimated)) ++ rest)
+
+-- a field without a comma in it, and its comma
+cut-plain : (v r : Bytes) → every inValue v ≡ true → cut (v ++ comma ∷ r) ≡ v ∷ cut r
+unfolding cut every
+cut-plain [] r h = refl
+cut-plain (b ∷ v) r h = rw (plain-comma b (and-left (inValue b) (every inValue v) h)) (ap (inFront b) (cut-plain v r (and-right (inValue b) (every inValue v) h)))
+
+-- both statuses, computed
+status-cut : (e : Bool) (r : Bytes) → cut (statusByte e ∷ comma ∷ comma ∷ r) ≡ (statusByte e ∷ []) ∷ [] ∷ cut r
+unfolding cut
+status-cut true r = refl
+status-cut false r = refl
+
+status-clean : (e : Bool) (r : Bytes) → every inLine r ≡ true → every inLine (tail (statusByte e) ++ r) ≡ true
+unfolding every
+status-clean true r h = h
+status-clean false r h = h
+
+status-interval : (n : ℕ) (e : Bool) (v : Bytes) → valueOf v ≡ passed n → intervalOf v (statusByte e ∷ []) [] ≡ passed (record { wh = n; estimated = e })
+unfolding intervalOf withEmpty statusOf equals isEmpty
+status-interval n true v h = rw h
+status-interval n false v h = rw h
+
+module _ (s : Bytes) (i : Interval) (rest : Bytes) (next : Next s i rest) where
+  next-cut : cut s ≡ next .value ∷ (statusByte (i .estimated) ∷ []) ∷ [] ∷ cut rest
+  next-cut = rw (next .text, cut-plain (next .value) (statusByte (i .estimated) ∷ comma ∷ comma ∷ rest) (next .plain), status-cut (i .estimated) rest)
+
+  next-interval : intervalOf (next .value) (statusByte (i .estimated) ∷ []) [] ≡ passed i
+  next-interval = status-interval (i .wh) (i .estimated) (next .value) (next .worth)
+
+  next-clean : every inLine rest ≡ true → every inLine s ≡ true
+  next-clean h =
+      rw (next .text)
+      (every-append inLine (next .value) (tail (statusByte (i .estimated)) ++ rest) (plain-line (next .value) (next .plain)) (status-clean (i .estimated) rest h))
+
+  next-more : (x : Bytes) → Next (s ++ x) i (rest ++ x)
+  next-more x = record {
+    value = next .value;
+    plain = next .plain;
+    worth = next .worth;
+    text = rw (next .text, append-assoc (next .value) (tail (statusByte (i .estimated)) ++ rest) x);
+  }
+
+-- SEVERAL INTERVALS, and nothing behind them
+pub Gives : Bytes → List Interval → Type 0
+Gives s [] = s ≡ []
+Gives s (i ∷ is) = (rest : Bytes) × (Next s i rest) × (Gives rest is)
+
+-- one more, x
+gives-more : (s : Bytes) (is : List Interval) (x : Bytes) (i : Interval) → Gives s is → Next x i [] → Gives (s ++ x) (is ++ i ∷ [])
+unfolding Gives
+gives-more s [] x i g n = ([], rw g n, refl)
+gives-more s (j ∷ is) x i g n = (g .0 ++ x, next-more s j (g .0) (g .1) x, gives-more (g .0) is x i (g .2) n)
+
+gives-clean : (s : Bytes) (is : List Interval) → Gives s is → every inLine s ≡ true
+unfolding Gives every
+gives-clean s [] g = rw g
+gives-clean s (i ∷ is) g = next-clean s i (g .0) (g .1) (gives-clean (g .0) is (g .2))
+
+gives-count : (s : Bytes) (is : List Interval) → Gives s is → length (cut s) ≡ 3 * length is + 1
+unfolding Gives cut
+gives-count s [] g = rw g
+gives-count s (i ∷ is) g = rw (next-cut s i (g .0) (g .1)) (omega (arith, gives-count (g .0) is (g .2)))
+
+gives-detail : (code s : Bytes) (a b c d : Interval) → Gives s (a ∷ b ∷ c ∷ d ∷ []) → detailOf (code ∷ cut s) ≡ passed (a ∷ b ∷ c ∷ d ∷ [])
+unfolding Gives detailOf fourOf isEmpty cut
+gives-detail code s a b c d g =
+    let g₂ = g .2 in
+    let g₃ = g₂ .2 in
+    let g₄ = g₃ .2 in
+    let last : cut (g₄ .0) ≡ [] ∷ [] = rw (g₄ .2) in
+    rw (
+      next-cut s a (g .0) (g .1),
+      next-cut (g .0) b (g₂ .0) (g₂ .1),
+      next-cut (g₂ .0) c (g₃ .0) (g₃ .1),
+      next-cut (g₃ .0) d (g₄ .0) (g₄ .1),
+      last,
+      next-interval s a (g .0) (g .1),
+      next-interval (g .0) b (g₂ .0) (g₂ .1),
+      next-interval (g₂ .0) c (g₃ .0) (g₃ .1),
+      next-interval (g₃ .0) d (g₄ .0) (g₄ .1),
+    )
+
+-- THE LINE AS FAR AS READ: the code due, its comma, and the text of these intervals
+pub record LineSoFar (k : ℕ) (t : Bytes) (at : ℕ) (is : List Interval) : Type 0 where
+  pub rest : Bytes
+  pub text : take at t ≡ detailCode k ++ comma ∷ rest
+  pub gives : Gives rest is
+
+pub line-first : (k : ℕ) (t : Bytes) (r : Bool) → (r ≡ true → take codeSize t ≡ detailCode k ++ comma ∷ []) → not r ≡ false → LineSoFar k t codeSize []
+unfolding Gives
+line-first k t r h hr = record { rest = []; text = h (not-false r hr); gives = refl }
+
+line-on : (k : ℕ) (t : Bytes) (at n : ℕ) (is : List Interval) (i : Interval) → LineSoFar k t at is → BeginsTriple (drop at t) i n
+    → LineSoFar k t (at + n + tailSize) (is ++ i ∷ [])
+line-on k t at n is i so-far h =
+    let x : Bytes = take (n + tailSize) (drop at t) in
+    let e : at + n + tailSize ≡ at + (n + tailSize) = omega arith in
+    let next : Next x i [] = record { value = take n (drop at t); plain = h .value .plain; worth = h .value .value; text = h .behind } in
+    record {
+      rest = so-far .rest ++ x;
+      text = rw (e, take-add at (n + tailSize) t, so-far .text, append-assoc (detailCode k) (comma ∷ so-far .rest) x);
+      gives = gives-more (so-far .rest) is x i (so-far .gives) next;
+    }
+
+-- the answer of the reader of value, status and empty
+module _ (t : Bytes) (at n : ℕ) (i : Interval) (q : Triple) (says : tripleSays q (drop at t)) (eq : q ≡ Read i n) where
+  begun : BeginsTriple (drop at t) i n
+  begun = rw eq at says
+
+  pub triple-short : n ≤ valueSize
+  triple-short = begun .value .short
+
+  pub line-set : (k j : ℕ) (read : List Interval) → LineSoFar k t at (take j read) → j < length read → LineSoFar k t (at + n + tailSize) (take (j + 1) (set read j i))
+  line-set k j read so-far l = rw (add-one, take-suc-set read j i l) (line-on k t at n (take j read) i so-far begun)
+
+-- THE LINE READ: it has no CR to drop, and is not long
+drop-none : (s : Bytes) → every inLine s ≡ true → dropCR s ≡ s
+unfolding dropCR every
+drop-none [] h = refl
+drop-none (b ∷ []) h = rw (line-CR b (and-left (inLine b) true h))
+drop-none (b ∷ (c ∷ s)) h = ap (λ r. b ∷ r) (drop-none (c ∷ s) (and-right (inLine b) (every inLine (c ∷ s)) h))
+
+ends-none : (s : Bytes) → every inLine s ≡ true → endsWithCR s ≡ false
+unfolding endsWithCR every
+ends-none [] h = refl
+ends-none (b ∷ []) h = line-CR b (and-left (inLine b) true h)
+ends-none (b ∷ (c ∷ s)) h = ends-none (c ∷ s) (and-right (inLine b) (every inLine (c ∷ s)) h)
+
+code-plain : (k : ℕ) → every inValue (detailCode k) ≡ true
+unfolding digitsOf every
+code-plain k = rw (digit-of _ (k / 10 % 10) refl (omega arith), digit-of _ (k % 10) refl (omega arith))
+
+module _ (k : ℕ) (t : Bytes) (at : ℕ) (a b c d : Interval) (so-far : LineSoFar k t at (a ∷ b ∷ c ∷ d ∷ [])) where
+  line : Bytes
+  line = detailCode k ++ comma ∷ so-far .rest
+
+  line-clean : every inLine line ≡ true
+  unfolding line every
+  line-clean =
+      every-append inLine (detailCode k) (comma ∷ so-far .rest) (plain-line (detailCode k) (code-plain k)) (gives-clean (so-far .rest) _ (so-far .gives))
+
+  line-cut : cut line ≡ detailCode k ∷ cut (so-far .rest)
+  unfolding line
+  line-cut = cut-plain (detailCode k) (so-far .rest) (code-plain k)
+
+  line-row : length line ≤ lineLimit → rowDetail k (endedLine line) ≡ passed (a ∷ b ∷ c ∷ d ∷ [])
+  unfolding rowDetail fieldsOf endedLine isLong
+  line-row l =
+      rw (
+        drop-none line line-clean,
+        ends-none line line-clean,
+        le-ltb lineLimit (length line + 0) (omega arith),
+        line-cut,
+        equals-refl (detailCode k),
+        eq-eqb (suc (length (cut (so-far .rest)))) 14 (omega (arith, gives-count (so-far .rest) _ (so-far .gives))),
+      )
+      (gives-detail (detailCode k) (so-far .rest) a b c d (so-far .gives))
+
+  line-read : at < length t → at ≤ lineLimit → getD t at 0 ≡ LF → DetailLine k t (a ∷ b ∷ c ∷ d ∷ []) at
+  unfolding line kindOf startsWith
+  line-read within short lf = record {
+    within = within;
+    ends = lf;
+    clean = rw (so-far .text) (line-LF line line-clean);
+    kind = rw (so-far .text);
+    row = rw (so-far .text) (line-row (omega (arith, ap length (so-far .text), length-take at t)));
+  }
+
+four-of : (read : List Interval) (z : Interval) → length read ≡ 4 → take 4 read ≡ getD read 0 z ∷ getD read 1 z ∷ getD read 2 z ∷ getD read 3 z ∷ []
+four-of [] z h = absurd (omega (arith, h))
+four-of (a ∷ []) z h = absurd (omega (arith, h))
+four-of (a ∷ (b ∷ [])) z h = absurd (omega (arith, h))
+four-of (a ∷ (b ∷ (c ∷ []))) z h = absurd (omega (arith, h))
+four-of (a ∷ (b ∷ (c ∷ (d ∷ read)))) z h = refl
+
+pub line-done : (k : ℕ) (t : Bytes) (at j : ℕ) (read : List Interval) (z : Interval) → LineSoFar k t at (take j read) → length read ≡ 4 → j ≤ 4 → 4 ≤ j
+    → at ≤ codeSize + (valueSize + tailSize) * j → length t ≡ windowSize → getD t at 0 ≡ LF
+    → DetailLine k t (getD read 0 z ∷ getD read 1 z ∷ getD read 2 z ∷ getD read 3 z ∷ []) at
+line-done k t at j read z so-far four j4 j4′ far len lf =
+    let e : j ≡ 4 = omega arith in
+    line-read k t at (getD read 0 z) (getD read 1 z) (getD read 2 z) (getD read 3 z) (rw (e, four-of read z four) at so-far) (omega arith) (omega arith) lf
+
+-- A LINE OF THE WINDOW is a line of the piece
+wider : (k m n : ℕ) (s : Bytes) (is : List Interval) → DetailLine k (take m s) is n → DetailLine k s is n
+wider k m n s is l =
+    let w : n < m = omega (arith, l .within, length-take m s) in
+    let e : take n (take m s) ≡ take n s = take-take n m s (omega arith) in
+    record {
+      within = omega (arith, l .within, length-take m s);
+      ends = sym (getD-take m s n 0 w) ∙ l .ends;
+      clean = rw e at (l .clean);
+      kind = rw e at (l .kind);
+      row = rw e at (l .row);
+    }
+
+pub direct-wider : (r : Direct) (k m : ℕ) (s : Bytes) → directSays r k (take m s) → directSays r k s
+direct-wider (Line a b c d n) k m s h = wider k m n s (a ∷ b ∷ c ∷ d ∷ []) h
+direct-wider Other k m s h = tt

@@ -1,0 +1,156 @@
+-- A value's text, digits with or without a point: what the rule makes of it, and that the reader's tests find such a text.
+-- Assumes nothing.
+use mathlib.Core.Path.{_≡_, refl, ap, sym, _∙_}
+use mathlib.Core.List.{[], _∷_, _++_, append-nil}
+use mathlib.Core.Bool.{Bool, true, false, not, _&&_, _||_}
+use Prim.Native.Nat.{ℕ, zero, suc, _+_, _-_, _*_, _<_, _≤_}
+use Prim.Native.Char.{code}
+use native.Mathlib.Omega.{arith}
+use lib.Dec.{eqb, leb}
+use lib.ListN.{length, take, drop, getD, length-drop}
+use lib.Seq.{length-take-le, getD-drop, take-add, drop-drop}
+use borrow.Author.Tests.{ne-eqb, le-leb, lt-leb, leb-true, eqb-true, eqb-false, not-true, not-false}
+use Rattle.text.specs.Byte.{Bytes, isDigit, every}
+use Rattle.text.specs.Number.{numberFrom, leading, behind}
+use Rattle.text.proofs.Truth.{and-left, and-right, or-right}
+use Rattle.text.proofs.Left.{left-cons}
+use Rattle.text.proofs.Class.{digit-low}
+use Rattle.lines.specs.Outcome.{passed}
+use Rattle.details.specs.Value.{point, wholeDigits, partDigits, isNegative, wattHours, withPoint, valueParts, valueOf}
+use Rattle.direct.specs.Guess.{Room, Layout, Writes, BeginsValue, BeginsTriple, valueSays, inValue, tail, statusByte, valueSize, tailSize, wholeTaken, wholeMost, partMost}
+use Rattle.direct.specs.declared.guess.Value.{Value}
+use Rattle.direct.specs.declared.guess.Value.the-variants.{WattHours}
+use Rattle.direct.proofs.Every.{every-append, digits-plain}
+use Rattle.direct.proofs.Digit.{exact}
+
+-- DIGITS AT THE FRONT of a text
+module _ (r : Bytes) where
+  leading-digits : (q : Bytes) → every isDigit q ≡ true → leading (q ++ r) ≡ q ++ leading r
+  unfolding leading every
+  leading-digits [] h = refl
+  leading-digits (b ∷ q) h = rw (and-left (isDigit b) (every isDigit q) h) (ap (λ x. b ∷ x) (leading-digits q (and-right (isDigit b) (every isDigit q) h)))
+
+  behind-digits : (q : Bytes) → every isDigit q ≡ true → behind (q ++ r) ≡ behind r
+  unfolding behind every
+  behind-digits [] h = refl
+  behind-digits (b ∷ q) h = rw (and-left (isDigit b) (every isDigit q) h) (behind-digits q (and-right (isDigit b) (every isDigit q) h))
+
+  plus-digits : (q : Bytes) → every isDigit q ≡ true → isNegative r ≡ false → isNegative (q ++ r) ≡ false
+  unfolding isNegative every
+  plus-digits [] h g = g
+  plus-digits (b ∷ q) h g = ne-eqb b (code "-") (λ e. omega (arith, digit-low b (and-left (isDigit b) (every isDigit q) h), e))
+
+none-part : (p : Bytes) (m : ℕ) → Writes partDigits p m → length p ≡ 0 → m ≡ 0
+unfolding numberFrom
+none-part [] m w h = omega (arith, w .value)
+none-part (b ∷ p) m w h = absurd (omega (arith, h))
+
+-- THE RULE, of the digits q before a point and the digits p behind it
+module _ (q p : Bytes) (n m : ℕ) (w : Writes 0 q n) (v : Writes partDigits p m) (short : length q ≤ wholeDigits) where
+  whole-value : 0 < length q → length p ≡ 0 → valueOf q ≡ passed (n * 1000 + m)
+  unfolding valueOf valueParts wattHours numberFrom isNegative leading behind
+  whole-value h z =
+      ap valueOf (sym (append-nil q))
+      ∙ rw (
+        plus-digits [] q (w .clean) refl,
+        leading-digits [] q (w .clean),
+        behind-digits [] q (w .clean),
+        append-nil q,
+        le-leb 1 (length q) h,
+        le-leb (length q) wholeDigits short,
+        exact 0 q n w (omega arith),
+        none-part p m v z,
+      )
+
+  point-value : 0 < length p → length p ≤ partDigits → valueOf (q ++ point ∷ p) ≡ passed (n * 1000 + m)
+  unfolding valueOf valueParts withPoint wattHours isNegative leading behind
+  point-value h g =
+      rw (
+        plus-digits (point ∷ p) q (w .clean) refl,
+        leading-digits (point ∷ p) q (w .clean),
+        behind-digits (point ∷ p) q (w .clean),
+        append-nil q,
+        v .clean,
+        lt-leb (partDigits + 1) (length p) (omega arith),
+        le-leb 1 (length p) h,
+        le-leb (length q) wholeDigits short,
+        exact 0 q n w (omega arith),
+        v .value,
+      )
+
+-- THE TESTS of the reader
+pub layout : (n d : ℕ) → d ≤ n → (not (eqb n 0) && leb d wholeTaken && not (eqb (n - d) 1) && leb (n - d) (partDigits + 1)) ≡ true → Layout n d
+layout n d l h =
+    let some : Bool = not (eqb n 0) in
+    let digit : Bool = not (eqb (n - d) 1) in
+    let h₃ : (some && leb d wholeTaken && digit) ≡ true = and-left _ (leb (n - d) (partDigits + 1)) h in
+    let h₂ : (some && leb d wholeTaken) ≡ true = and-left _ digit h₃ in
+    let z : n ≡ 0 → ⊥ = eqb-false n 0 (not-true _ (and-left some (leb d wholeTaken) h₂)) in
+    record {
+      some = omega arith;
+      whole = leb-true d wholeTaken (and-right some (leb d wholeTaken) h₂);
+      part = leb-true (n - d) (partDigits + 1) (and-right (some && leb d wholeTaken && digit) (leb (n - d) (partDigits + 1)) h);
+      digit = eqb-false (n - d) 1 (not-true _ (and-right (some && leb d wholeTaken) digit h₃));
+    }
+
+pub dot : (f b : ℕ) → (eqb f 0 || eqb b point) ≡ true → 0 < f → b ≡ point
+dot f b h l = eqb-true b point (or-right (eqb f 0) (eqb b point) h (ne-eqb f 0 (λ e. omega arith)))
+
+-- d digits at the front of s, and f bytes behind them, which are none or a point with its digits
+read-by : (s : Bytes) (n d f whole part : ℕ) → n ≡ d + f → n < length s → Layout n d → (0 < f → getD s d 0 ≡ point)
+    → Writes 0 (take d s) whole → Writes partDigits (take (f - 1) (drop (d + 1) s)) part → BeginsValue s (whole * 1000 + part) n
+unfolding every
+read-by s n d zero whole part e l y g w v =
+    let same : n ≡ d = omega arith in
+    let q : length (take d s) ≡ d = length-take-le d s (omega arith) in
+    rw same
+    (record {
+      short = omega (arith, y .whole);
+      plain = digits-plain (take d s) (w .clean);
+      value = whole-value (take d s) (take 0 (drop (d + 1) s)) whole part w v (omega (arith, q, y .whole)) (omega (arith, q, y .some)) refl;
+    })
+read-by s n d (suc m) whole part e l y g w v =
+    let z : suc m - 1 ≡ m = omega arith in
+    let v′ : Writes partDigits (take m (drop (d + 1) s)) part = rw z at v in
+    let q : length (take d s) ≡ d = length-take-le d s (omega arith) in
+    let p : length (take m (drop (d + 1) s)) ≡ m = length-take-le m (drop (d + 1) s) (simp length-drop (omega arith)) in
+    let text : take n s ≡ take d s ++ point ∷ take m (drop (d + 1) s) = rw (e, take-add d (suc m) s, left-cons s d (omega arith), g (omega arith)) in
+    record {
+      short = omega (arith, y .whole, y .part);
+      plain =
+          rw text
+          (every-append inValue (take d s) (point ∷ take m (drop (d + 1) s)) (digits-plain (take d s) (w .clean)) (digits-plain (take m (drop (d + 1) s)) (v′ .clean)));
+      value =
+          rw text
+          (point-value (take d s) (take m (drop (d + 1) s)) whole part w v′ (omega (arith, q, y .whole)) (omega (arith, p, y .digit)) (omega (arith, p, y .part)));
+    }
+
+-- the reader's answer, wherever its guesses n and d point; m digits stand behind the point
+module _ (t : Bytes) (at n d : ℕ) (room : Room at t) (r : Bool) (fits : r ≡ true → Layout n d) (hr : not r ≡ false) where
+  pub value-read : (m whole part : ℕ) (q : Bool) → m ≡ n - d - 1 → n ≤ valueSize → d ≤ n
+      → (q ≡ true → 0 < n - d → getD t (at + d) 0 ≡ point) → not q ≡ false
+      → (whole ≤ wholeMost → Writes 0 (take d (drop at t)) whole) → whole ≤ wholeMost
+      → (part ≤ partMost → Writes partDigits (take m (drop (at + d + 1) t)) part) → part ≤ partMost
+      → BeginsValue (drop at t) (whole * 1000 + part) n
+  value-read m whole part q e n8 dn g hq w hw v hv =
+      let here : drop (d + 1) (drop at t) ≡ drop (at + d + 1) t = drop-drop (d + 1) at t ∙ ap (λ k. drop k t) (sum at d) in
+      read-by (drop at t) n d (n - d) whole part (omega arith) (simp length-drop (omega (arith, room .behind))) (fits (not-false r hr))
+      (λ l. getD-drop at t d 0 ∙ g (not-false q hq) l) (w hw) (rw (here, ← e) (v hv))
+    where
+      sum : (a b : ℕ) → a + (b + 1) ≡ a + b + 1
+      sum a b = omega arith
+
+-- the answer of the value's reader
+module _ (t : Bytes) (at wh n : ℕ) (v : Value) (says : valueSays v (drop at t)) (ev : v ≡ WattHours wh n) where
+  begun : BeginsValue (drop at t) wh n
+  begun = rw ev at says
+
+  pub value-short : n ≤ valueSize
+  value-short = begun .short
+
+  pub triple-read : (estimated : Bool) (r : Bool) → (r ≡ true → take tailSize (drop (at + n) t) ≡ tail (getD t (at + n + 1) 0)) → not r ≡ false
+      → getD t (at + n + 1) 0 ≡ statusByte estimated → BeginsTriple (drop at t) (record { wh = wh; estimated = estimated }) n
+  triple-read estimated r h hr e = record {
+    value = begun;
+    behind = rw (take-add n tailSize (drop at t), drop-drop n at t, h (not-false r hr), e);
+  }

@@ -1,0 +1,3 @@
+-- What the direct reader of detail lines owes.
+pub mod Direct
+pub mod Guess

@@ -1,0 +1,2 @@
+-- The proof that it holds.
+pub mod TheFacts

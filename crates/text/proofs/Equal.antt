@@ -1,0 +1,86 @@
+-- Texts compared byte by byte: two of one length, and a text with the beginning of another.
+-- Assumes nothing.
+use mathlib.Core.Path.{_≡_, refl, ap, sym, _∙_}
+use mathlib.Core.List.{[], _∷_}
+use mathlib.Core.Bool.{Bool, true, false, _&&_}
+use Prim.Native.Nat.{ℕ, suc, _+_, _<_, _≤_}
+use native.Mathlib.Omega.{arith}
+use lib.Dec.{eqb}
+use lib.ListN.{length, drop, getD}
+use borrow.Author.Tests.{eq-eqb, ne-eqb, eqb-true}
+use Rattle.text.specs.Byte.{Bytes, equals, startsWith}
+use Rattle.text.proofs.Truth.{apart, and-left, and-right}
+use Rattle.text.proofs.Left.{left-cons, left-none}
+
+and-false : (p q : Bool) → q ≡ false → (p && q) ≡ false
+and-false true q e = e
+and-false false q e = refl
+
+-- equal texts are one text
+pub equals-path : (s t : Bytes) → equals s t ≡ true → s ≡ t
+unfolding equals
+equals-path [] [] h = refl
+equals-path [] (c ∷ t) h = absurd (apart h)
+equals-path (b ∷ s) [] h = absurd (apart h)
+equals-path (b ∷ s) (c ∷ t) h =
+    let e : b ≡ c = eqb-true b c (and-left (eqb b c) (equals s t) h) in
+    let g : s ≡ t = equals-path s t (and-right (eqb b c) (equals s t) h) in
+    rw (e, g)
+
+pub equals-refl : (s : Bytes) → equals s s ≡ true
+unfolding equals
+equals-refl [] = refl
+equals-refl (b ∷ s) = rw (eq-eqb b b refl) (equals-refl s)
+
+equals-longer : (s t : Bytes) → (length s ≡ length t → ⊥) → equals s t ≡ false
+unfolding equals
+equals-longer [] [] h = absurd (h refl)
+equals-longer [] (c ∷ t) h = refl
+equals-longer (b ∷ s) [] h = refl
+equals-longer (b ∷ s) (c ∷ t) h = and-false (eqb b c) (equals s t) (equals-longer s t (λ e. h (ap suc e)))
+
+pub equals-lengths : (s t : Bytes) → (length s ≡ length t → ⊥) → false ≡ equals s t
+equals-lengths s t h = sym (equals-longer s t h)
+
+-- the comparison at i: the bytes differ, are the same, or there are no more
+module _ (s t : Bytes) (i : ℕ) (inv : equals s t ≡ equals (drop i s) (drop i t)) (long : length s ≡ length t) where
+  pub equals-found : i < length s → (getD s i 0 ≡ getD t i 0 → ⊥) → false ≡ equals s t
+  unfolding equals
+  equals-found h e = sym (inv ∙ rw (left-cons s i h, left-cons t i (omega arith), ne-eqb _ _ e))
+
+  pub equals-again : i < length s → getD s i 0 ≡ getD t i 0 → equals s t ≡ equals (drop (i + 1) s) (drop (i + 1) t)
+  unfolding equals
+  equals-again h e = inv ∙ rw (left-cons s i h, left-cons t i (omega arith), eq-eqb _ _ e)
+
+  pub equals-last : length s ≤ i → true ≡ equals s t
+  unfolding equals
+  equals-last h = sym (inv ∙ rw (left-none s i h, left-none t i (omega arith)))
+
+starts-shorter : (p s : Bytes) → length s < length p → startsWith p s ≡ false
+unfolding startsWith
+starts-shorter [] s h = absurd (omega (arith, h))
+starts-shorter (b ∷ p) [] h = refl
+starts-shorter (b ∷ p) (c ∷ s) h = and-false (eqb c b) (startsWith p s) (starts-shorter p s (omega (arith, h)))
+
+pub starts-short : (p s : Bytes) → length s < length p → false ≡ startsWith p s
+starts-short p s h = sym (starts-shorter p s h)
+
+pub starts-long : (p s : Bytes) → startsWith p s ≡ true → length p ≤ length s
+unfolding startsWith
+starts-long [] s h = omega arith
+starts-long (b ∷ p) [] h = absurd (apart h)
+starts-long (b ∷ p) (c ∷ s) h = omega (arith, starts-long p s (and-right (eqb c b) (startsWith p s) h))
+
+-- the beginning at i, likewise
+module _ (p s : Bytes) (i : ℕ) (inv : startsWith p s ≡ startsWith (drop i p) (drop i s)) (room : length p ≤ length s) where
+  pub starts-found : i < length p → (getD s i 0 ≡ getD p i 0 → ⊥) → false ≡ startsWith p s
+  unfolding startsWith
+  starts-found h e = sym (inv ∙ rw (left-cons p i h, left-cons s i (omega arith), ne-eqb _ _ e))
+
+  pub starts-again : i < length p → getD s i 0 ≡ getD p i 0 → startsWith p s ≡ startsWith (drop (i + 1) p) (drop (i + 1) s)
+  unfolding startsWith
+  starts-again h e = inv ∙ rw (left-cons p i h, left-cons s i (omega arith), eq-eqb _ _ e)
+
+  pub starts-last : length p ≤ i → true ≡ startsWith p s
+  unfolding startsWith
+  starts-last h = sym (inv ∙ rw (left-none p i h))
