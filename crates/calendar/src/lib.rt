@@ -17,7 +17,8 @@ const LAST_YEAR: u32 = 2099;
 
 const MONTHS: usize = 1116;
 
-const LAST_DAY: u32 = 33967;
+// 20991231
+pub const LAST_DAY: u32 = 33967;
 
 fn narrow(x: usize) -> u32
     requires { ⌜ x < months ⌝ }

@@ -1,0 +1,2 @@
+-- The registry checks of a record that has all its rows.
+pub mod Check

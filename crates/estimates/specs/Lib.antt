@@ -1,0 +1,2 @@
+-- The call Estimates.
+pub mod Estimates

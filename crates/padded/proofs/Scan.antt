@@ -1,0 +1,55 @@
+-- Scans that do not stop early: what they have found so far, and what is left of the text.
+-- Assumes nothing.
+use mathlib.Core.Path.{_≡_, sym, _∙_}
+use mathlib.Core.List.{_∷_}
+use mathlib.Core.Bool.{Bool, not, _&&_, _||_, and-true, and-assoc}
+use Prim.Native.Nat.{ℕ, _+_, _≤_, _<_}
+use native.Mathlib.Omega.{arith}
+use lib.Dec.{eqb}
+use lib.ListN.{length, getD, drop}
+use Rattle.text.specs.Byte.{Bytes, isAlnum, every, equals}
+use Rattle.text.proofs.Left.{left-cons, left-none}
+use Rattle.padded.specs.Padding.{isSpace}
+use Rattle.padded.specs.Private.{isPadded, spacesLast}
+
+-- every byte is of the class
+module _ (class : ℕ → Bool) (s : Bytes) (i : ℕ) (ok : Bool) (inv : every class s ≡ (ok && every class (drop i s))) where
+  pub every-step : (r : Bool) → i < length s → r ≡ class (getD s i 0) → every class s ≡ ((ok && r) && every class (drop (i + 1) s))
+  unfolding every
+  every-step r h e = inv ∙ rw (left-cons s i h, e) (sym (and-assoc ok (class (getD s i 0)) (every class (drop (i + 1) s))))
+
+  pub every-end : length s ≤ i → ok ≡ every class s
+  unfolding every
+  every-end h = sym (inv ∙ rw (left-none s i h) (and-true ok))
+
+pub padded-step : (s : Bytes) (i : ℕ) (ok : Bool) → every isPadded s ≡ (ok && every isPadded (drop i s)) → (r : Bool) → i < length s
+    → r ≡ isAlnum (getD s i 0) → every isPadded s ≡ ((ok && (r || isSpace (getD s i 0))) && every isPadded (drop (i + 1) s))
+padded-step s i ok inv r h e = every-step isPadded s i ok inv (r || isSpace (getD s i 0)) h (rw e)
+
+-- no space stands before another byte
+module _ (s : Bytes) (i : ℕ) (ok : Bool) (inv : spacesLast s ≡ (ok && spacesLast (drop i s))) where
+  pub last-step : i + 1 < length s → spacesLast s ≡ ((ok && (not (isSpace (getD s i 0)) || isSpace (getD s (i + 1) 0))) && spacesLast (drop (i + 1) s))
+  unfolding spacesLast
+  last-step h =
+      let l : i < length s = omega arith in
+      inv ∙ rw (left-cons s i l, left-cons s (i + 1) h)
+      (sym (and-assoc ok (not (isSpace (getD s i 0)) || isSpace (getD s (i + 1) 0)) (spacesLast (getD s (i + 1) 0 ∷ drop (i + 1 + 1) s))))
+
+  pub last-end : (last : ℕ) → last + 1 ≡ length s → last ≤ i → i ≤ last → ok ≡ spacesLast s
+  unfolding spacesLast
+  last-end last e h g =
+      let l : i < length s = omega arith in
+      let n : length s ≤ i + 1 = omega arith in
+      sym (inv ∙ rw (left-cons s i l, left-none s (i + 1) n) (and-true ok))
+
+-- two texts are equal
+module _ (s t : Bytes) (i : ℕ) (ok : Bool) (inv : equals s t ≡ (ok && equals (drop i s) (drop i t))) (long : length s ≡ length t) where
+  pub equals-step : i < length s → equals s t ≡ ((ok && eqb (getD s i 0) (getD t i 0)) && equals (drop (i + 1) s) (drop (i + 1) t))
+  unfolding equals
+  equals-step h =
+      inv ∙ rw (left-cons s i h, left-cons t i (omega arith))
+      (sym (and-assoc ok (eqb (getD s i 0) (getD t i 0)) (equals (drop (i + 1) s) (drop (i + 1) t))))
+
+  pub equals-end : length s ≤ i → ok ≡ equals s t
+  unfolding equals
+  equals-end h = sym (inv ∙ rw (left-none s i h, left-none t i (omega arith)) (and-true ok))

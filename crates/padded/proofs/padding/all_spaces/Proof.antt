@@ -1,0 +1,42 @@
+-- `padded::padding::all_spaces` meets its contract.
+-- Assumes nothing.
+use mathlib.Core.Bool.{_&&_}
+use mathlib.Core.Path.{_≡_, refl}
+use Prim.Native.Nat.{_-_, _≤_}
+use native.Mathlib.Omega.{arith}
+use lib.ListN.{length, drop}
+use borrow.Author.Needs.{needs}
+use Rattle.text.specs.Byte.{every}
+use Rattle.padded.specs.Padding.{isSpace}
+use Rattle.padded.proofs.Scan.{every-step, every-end}
+use Rattle.padded.proofs.padding.all_spaces.Statement.{statement}
+use Rattle.padded.proofs.padding.all_spaces.Tie as tie
+
+abbrev Inv-loop : tie.InvT-loop
+Inv-loop s ok₀ i₀ ok i = (i ≤ length s) × (every isSpace s ≡ (ok && every isSpace (drop i s)))
+
+abbrev μ-loop : tie.MeasureT-loop
+μ-loop s ok₀ i₀ ok i = length s - i
+
+loop-holds : tie.Need-loop-holds Inv-loop μ-loop
+loop-holds c = (omega arith, refl)
+
+shared-slice-read-ok : tie.Need-shared-slice-read-ok Inv-loop μ-loop
+shared-slice-read-ok c = search needs
+
+add-i : tie.Need-add-i Inv-loop μ-loop
+add-i c = search needs
+
+loop-less : tie.Need-loop-less Inv-loop μ-loop
+loop-less c = search needs
+
+loop-again : tie.Need-loop-again Inv-loop μ-loop
+loop-again c = (omega arith, search (every-step, needs))
+
+returns : tie.Need-returns Inv-loop μ-loop
+returns c = search (every-end, needs)
+
+pub all-spaces-spec : {M : Type 1} → statement M
+all-spaces-spec =
+    tie.close
+    (tie.spec Inv-loop μ-loop loop-holds shared-slice-read-ok add-i loop-less loop-again returns)

@@ -1,0 +1,82 @@
+// Texts padded at the end with spaces.
+ghost use mathlib.Core.Path.{_≡_};
+ghost use Prim.Native.Nat.{_<_};
+ghost use lib.ListN.{length};
+ghost use Rattle.text.specs.Byte.{isDigit, every};
+ghost use Rattle.padded.specs.Padding.{isSpace, isPaddedEsiId, isPaddedDuns};
+ghost use Rattle.padded.specs.Private.{isPadded, spacesLast};
+use text::bytes::is_alnum;
+use text::bytes::is_digit;
+
+const SPACE: u8 = b' ';
+
+fn all_digits(s: &[u8]) -> bool
+    ensures { λ r. ⌜ r ≡ every isDigit (now (s .entry)) ⌝ }
+{
+    let mut ok = true;
+    let mut i: usize = 0;
+    while i < s.len() {
+        ok = ok & is_digit(s[i]);
+        i += 1;
+    }
+    ok
+}
+
+fn all_spaces(s: &[u8]) -> bool
+    ensures { λ r. ⌜ r ≡ every isSpace (now (s .entry)) ⌝ }
+{
+    let mut ok = true;
+    let mut i: usize = 0;
+    while i < s.len() {
+        ok = ok & (s[i] == SPACE);
+        i += 1;
+    }
+    ok
+}
+
+// Letters, digits and spaces only.
+fn all_padded(s: &[u8]) -> bool
+    ensures { λ r. ⌜ r ≡ every isPadded (now (s .entry)) ⌝ }
+{
+    let mut ok = true;
+    let mut i: usize = 0;
+    while i < s.len() {
+        let b = s[i];
+        ok = ok & (is_alnum(b) | (b == SPACE));
+        i += 1;
+    }
+    ok
+}
+
+// Whether no space stands before another byte: each pair of neighbours is tested.
+fn spaces_last(s: &[u8]) -> bool
+    requires { ⌜ 0 < length (now s) ⌝ }
+    ensures { λ r. ⌜ r ≡ spacesLast (now (s .entry)) ⌝ }
+{
+    let last = s.len() - 1;
+    let mut ok = true;
+    let mut i: usize = 0;
+    while i < last {
+        ok = ok & ((s[i] != SPACE) | (s[i + 1] == SPACE));
+        i += 1;
+    }
+    ok
+}
+
+// 64 bytes: an ESI ID, padded at the end with spaces. The 63 pairs of neighbours are tested as 48 and 16, which fill whole vectors.
+pub fn is_padded_esi_id(s: &[u8]) -> bool
+    requires { ⌜ length (now s) ≡ 64 ⌝ }
+    ensures { λ r. ⌜ r ≡ isPaddedEsiId (now (s .entry)) ⌝ }
+{
+    (s[0] != SPACE) & all_padded(s) & spaces_last(&s[0..49]) & spaces_last(&s[47..64])
+}
+
+// 13 bytes: a DUNS number, padded at the end with spaces. Behind its first 9 digits stand 4 more, or 4 spaces.
+pub fn is_padded_duns(s: &[u8]) -> bool
+    requires { ⌜ length (now s) ≡ 13 ⌝ }
+    ensures { λ r. ⌜ r ≡ isPaddedDuns (now (s .entry)) ⌝ }
+{
+    let nine = &s[..9];
+    let rest = &s[9..];
+    all_digits(nine) & (all_digits(rest) | all_spaces(rest))
+}
