@@ -1,6 +1,6 @@
 -- Dates: a number YYYYMMDD, real from 2007 to 2099. Document 01, "Rows".
 -- Assumes nothing.
-use mathlib.Core.Bool.{Bool, true, false, cond, not, _&&_, _||_}
+use mathlib.Core.Bool.{Bool, cond, not, _&&_, _||_}
 use Prim.Native.Nat.{ℕ, _+_, _*_, _/_, _%_}
 use lib.Dec.{eqb, leb}
 

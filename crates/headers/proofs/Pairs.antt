@@ -34,8 +34,8 @@ unfolding endsThirty
 ends-right rest receiver rest₂ rep p q u er ea ep hp hq hu = rw (← ea, ← er, ← ep, ← hp, ← hq, ← hu)
 
 -- what stands behind a field's first bytes
-sender-left : (rest : Bytes) → take (length (firstField rest) - 7) (drop 7 rest) ≡ drop 7 (firstField rest)
-sender-left rest = sym (drop-take 7 (length (firstField rest)) rest) ∙ ap (λ x. drop 7 x) (sym (field-take rest))
+sender-left : (rest : Bytes) → take (length (firstField rest) - length senderName) (drop (length senderName) rest) ≡ drop (length senderName) (firstField rest)
+sender-left rest = sym (drop-take (length senderName) (length (firstField rest)) rest) ∙ ap (λ x. drop (length senderName) x) (sym (field-take rest))
 
 -- the tests in the reader's order: the Sender's comes last
 and-swap : (a b c d : Bool) → (a && b && c && d) ≡ (a && b && d && c)
@@ -65,8 +65,8 @@ module _ (line rest₂ pairs rest₃ mre rest₄ sender rest₅ : Bytes) (due : 
     unfolding thirtyOf
     thirty-sender h = rw (tests, not-false (p && q && u) hg, ← es, not-true s h)
 
-    pub thirty-passed : (at : ℕ) → not s ≡ false → StartsAt line at rest₄ → passed (take (length sender - 7) (drop (at + 7) line)) ≡ thirtyOf (cut line)
+    pub thirty-passed : (at : ℕ) → not s ≡ false → StartsAt line at rest₄ → passed (take (length sender - length senderName) (drop (at + length senderName) line)) ≡ thirtyOf (cut line)
     unfolding thirtyOf
     thirty-passed at h st =
-        rw (tests, not-false (p && q && u) hg, ← es, not-false s h, cut-at 3 line (omega (arith, due .count)), ← a2, ← a3, ← a4, ← e4, ← drop-drop 7 at line, st .left)
+        rw (tests, not-false (p && q && u) hg, ← es, not-false s h, cut-at 3 line (omega (arith, due .count)), ← a2, ← a3, ← a4, ← e4, ← drop-drop (length senderName) at line, st .left)
         (ap (λ x. passed x) (rw e4 (sender-left rest₄)))

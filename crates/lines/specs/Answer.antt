@@ -13,7 +13,7 @@ use Rattle.lines.specs.declared.row.Place.{Place}
 use Rattle.lines.specs.declared.row.Checked.{Checked}
 use Rattle.lines.specs.declared.row.Checked.the-variants.{Passed as CheckedPassed, Refused as CheckedRefused}
 
--- a line that was dropped of its CR, or had none
+-- a line without its CR, and whether it had one
 abbrev pub lineOf : Bytes → Bool → Line
 lineOf body cr = record { body = body; cr = cr }
 

@@ -2,6 +2,7 @@
 ghost use mathlib.Core.Path.{_≡_};
 ghost use lib.ListN.{length};
 ghost use Rattle.text.specs.Byte.{equals};
+ghost use Rattle.text.specs.Identifier.{esiIdSize};
 ghost use Rattle.padded.specs.Order.{order};
 ghost use Rattle.padded.specs.Private.{word};
 use text::names::ESI_ID_SIZE;
@@ -36,7 +37,7 @@ fn word(s: &[u8]) -> u64
 
 // How one text of 64 bytes stands to another.
 pub fn compare(s: &[u8], t: &[u8]) -> Order
-    requires { ⌜ (length (now s) ≡ 64) × (length (now t) ≡ 64) ⌝ }
+    requires { ⌜ (length (now s) ≡ esiIdSize) × (length (now t) ≡ esiIdSize) ⌝ }
     ensures { λ r. ⌜ r ≡ order (now (s .entry)) (now (t .entry)) ⌝ }
 {
     let mut i: usize = 0;

@@ -3,6 +3,7 @@ ghost use mathlib.Core.Path.{_≡_};
 ghost use Prim.Native.Nat.{_<_};
 ghost use lib.ListN.{length};
 ghost use Rattle.text.specs.Byte.{isDigit, every};
+ghost use Rattle.text.specs.Identifier.{esiIdSize, dunsSize};
 ghost use Rattle.padded.specs.Padding.{isSpace, isPaddedEsiId, isPaddedDuns};
 ghost use Rattle.padded.specs.Private.{isPadded, spacesLast};
 use text::bytes::is_alnum;
@@ -65,7 +66,7 @@ fn spaces_last(s: &[u8]) -> bool
 
 // 64 bytes: an ESI ID, padded at the end with spaces. The 63 pairs of neighbours are tested as 48 and 16, which fill whole vectors.
 pub fn is_padded_esi_id(s: &[u8]) -> bool
-    requires { ⌜ length (now s) ≡ 64 ⌝ }
+    requires { ⌜ length (now s) ≡ esiIdSize ⌝ }
     ensures { λ r. ⌜ r ≡ isPaddedEsiId (now (s .entry)) ⌝ }
 {
     (s[0] != SPACE) & all_padded(s) & spaces_last(&s[0..49]) & spaces_last(&s[47..64])
@@ -73,7 +74,7 @@ pub fn is_padded_esi_id(s: &[u8]) -> bool
 
 // 13 bytes: a DUNS number, padded at the end with spaces. Behind its first 9 digits stand 4 more, or 4 spaces.
 pub fn is_padded_duns(s: &[u8]) -> bool
-    requires { ⌜ length (now s) ≡ 13 ⌝ }
+    requires { ⌜ length (now s) ≡ dunsSize ⌝ }
     ensures { λ r. ⌜ r ≡ isPaddedDuns (now (s .entry)) ⌝ }
 {
     let nine = &s[..9];

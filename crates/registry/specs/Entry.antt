@@ -9,7 +9,7 @@ use Rattle.calendar.specs.Date.{isDate}
 use Rattle.calendar.specs.Day.{dayNumber, lastDay}
 use Rattle.text.specs.Byte.{Bytes, isDigit, every}
 use Rattle.text.specs.Number.{number}
-use Rattle.text.specs.Identifier.{esiIdSize}
+use Rattle.text.specs.Identifier.{esiIdSize, dunsSize}
 use Rattle.padded.specs.Padding.{isPaddedEsiId, isPaddedDuns}
 use Rattle.registry.specs.declared.entry.Window.{Window}
 use Rattle.registry.specs.declared.entry.Start.{Start}
@@ -22,7 +22,7 @@ abbrev pub windowSize : ℕ
 windowSize = 10
 
 abbrev pub ownerSize : ℕ
-ownerSize = 13
+ownerSize = dunsSize
 
 abbrev pub meterSize : ℕ
 meterSize = esiIdSize + 1

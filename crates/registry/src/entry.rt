@@ -9,13 +9,14 @@ use calendar::day_number;
 use padded::padding::is_padded_duns;
 use padded::padding::is_padded_esi_id;
 use text::bytes::all_digits;
+use text::names::DUNS_SIZE;
 use text::names::ESI_ID_SIZE;
 use text::numbers::number_of;
 
 // The bytes of each kind's body, behind the kind byte.
 pub const WINDOW_SIZE: usize = 10;
 
-pub const OWNER_SIZE: usize = 13;
+pub const OWNER_SIZE: usize = DUNS_SIZE;
 
 pub const METER_SIZE: usize = ESI_ID_SIZE + 1;
 

@@ -23,6 +23,10 @@ isEsiId s = isName esiIdSize s
 abbrev pub isDescriptor : Bytes → Bool
 isDescriptor s = isName descriptorSize s
 
+-- the digits of the longer DUNS number, to which the registry pads
+abbrev pub dunsSize : ℕ
+dunsSize = 13
+
 -- document 01's "DUNS number": 9 or 13 digits
 unfoldable pub isDuns : Bytes → Bool
-isDuns s = (eqb (length s) 9 || eqb (length s) 13) && every isDigit s
+isDuns s = (eqb (length s) 9 || eqb (length s) dunsSize) && every isDigit s

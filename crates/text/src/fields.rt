@@ -1,6 +1,6 @@
 // Fields and parts of a line, each returned as that very part of the caller's slice.
 ghost use mathlib.Core.Path.{_≡_};
-ghost use Prim.Native.Nat.{_≤_};
+ghost use Prim.Native.Nat.{_<_};
 ghost use lib.ListN.{length, take, drop};
 ghost use Rattle.text.specs.Field.{cut, firstField, afterField};
 
@@ -52,9 +52,9 @@ pub fn after<'a>(rest: &'a [u8], first: &[u8]) -> &'a [u8]
     &rest[e..]
 }
 
-// How many fields a line has.
+// How many fields a line has. The count is a byte, so that the loop runs on many bytes at once.
 pub fn field_count(line: &[u8]) -> u8
-    requires { ⌜ length (now line) ≤ 200 ⌝ }
+    requires { ⌜ length (now line) < 255 ⌝ }
     ensures { λ r. ⌜ r ≡ length (cut (now (line .entry))) ⌝ }
 {
     let mut n: u8 = 1;

@@ -8,6 +8,9 @@ pub const ESI_ID_SIZE: usize = 64;
 
 pub const DESCRIPTOR_SIZE: usize = 80;
 
+// The digits of the longer DUNS number.
+pub const DUNS_SIZE: usize = 13;
+
 // 1 to n letters or digits.
 fn is_name(s: &[u8], n: usize) -> bool
     ensures { λ r. ⌜ r ≡ isName n (now (s .entry)) ⌝ }
@@ -31,5 +34,5 @@ pub fn is_descriptor(s: &[u8]) -> bool
 pub fn is_duns(s: &[u8]) -> bool
     ensures { λ r. ⌜ r ≡ isDuns (now (s .entry)) ⌝ }
 {
-    ((s.len() == 9) | (s.len() == 13)) & all_digits(s)
+    ((s.len() == 9) | (s.len() == DUNS_SIZE)) & all_digits(s)
 }

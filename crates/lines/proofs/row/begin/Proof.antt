@@ -1,5 +1,8 @@
 -- `lines::row::begin` meets its contract.
 -- Assumes nothing.
+use native.Mathlib.Omega.{arith}
+-- `lines::row::begin` meets its contract.
+-- Assumes nothing.
 use borrow.Author.Needs.{needs}
 use Rattle.lines.proofs.Begin.{begin-long, begin-code, begin-count, begin-fields}
 use Rattle.lines.proofs.Lines.{short-line}
@@ -22,7 +25,7 @@ returns-2 : tie.Need-returns-2
 returns-2 c = search (begin-code, needs)
 
 field-count-requires : tie.Need-field-count-requires
-field-count-requires c κs = search (short-line, needs)
+field-count-requires c κs = omega (arith, short-line _ _ _ (c .before .before .before .before .is-long .ensures) (c .before .before .before .if1 .left))
 
 returns-3 : tie.Need-returns-3
 returns-3 c = search (begin-count, needs)
