@@ -6,3 +6,4 @@ pub mod Count
 pub mod Frame
 pub mod Built
 pub mod Held
+pub mod Stamps

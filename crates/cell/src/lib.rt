@@ -18,6 +18,7 @@ ghost use Prim.Native.Nat.{_<_};
 ghost use lib.ListN.{length};
 ghost use Rattle.cell.specs.Layout.{width, maxIntervals};
 ghost use Rattle.cell.specs.Read.{cleared, begun, withStamp, withInterval, stampIn};
+use crate::load::copy;
 use crate::mark::set_mark;
 use details::detail::Interval;
 use headers::time::Stamp;
@@ -65,6 +66,16 @@ impl Cell {
         words[Cell::COUNT] = count;
         Cell { words }
     }
+}
+
+// Begins a read of so many intervals, in words that another read may have used.
+pub fn begin(words: &mut [u32], count: u32)
+    requires { ⌜ length (now words) ≡ width ⌝ }
+    ensures { λ _. ⌜ now (words .exit) ≡ begun count ⌝ }
+{
+    let new = Cell::begun(count);
+    let from = new.words;
+    copy(words, &from);
 }
 
 pub fn put_stamp(words: &mut [u32], stamp: Stamp)

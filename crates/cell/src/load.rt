@@ -32,7 +32,8 @@ fn replaces(new: &[u32], old: &[u32]) -> bool
     holds_none(old) | is_later(stamp_in(new), stamp_in(old))
 }
 
-fn copy(to: &mut [u32], from: &[u32])
+// The words of one cell, put in the place of another's.
+pub fn copy(to: &mut [u32], from: &[u32])
     requires { ⌜ (length (now to) ≡ width) × (length (now from) ≡ width) ⌝ }
     ensures { λ _. ⌜ now (to .exit) ≡ now (from .entry) ⌝ }
 {

@@ -1,3 +1,4 @@
 -- Laws of the definitions, by subject; each function's proof cites them.
 pub mod Lines
 pub mod Begin
+pub mod Passing

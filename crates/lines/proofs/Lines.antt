@@ -11,7 +11,7 @@ use lib.Seq.{take-all}
 use borrow.Author.Tests.{leb-true, leb-false, lt-ltb, le-ltb, ltb-false}
 use Rattle.text.specs.Byte.{Bytes, startsWith}
 use Rattle.text.proofs.Truth.{apart}
-use Rattle.lines.specs.Line.{CR, endsWithCR, dropCR, lineLimit, crSize, isLong, openerBytes, detailBytes, kindOf}
+use Rattle.lines.specs.Line.{CR, endsWithCR, dropCR, endedLine, lastLine, lineLimit, crSize, isLong, openerBytes, detailBytes, kindOf}
 use Rattle.lines.specs.Answer.{lineOf}
 use Rattle.lines.specs.declared.line.Kind.the-variants.{Empty, Opener, Detail, Other}
 
@@ -80,6 +80,25 @@ unfolding isLong
 long-none s cr h =
     let z : length s + 0 ≡ length s = omega arith in
     rw (h, z)
+
+-- a line that an LF ends, or finish: long by the bytes before that, CR included
+dropped-size : (s : Bytes) → length (dropCR s) + crSize (endsWithCR s) ≡ length s
+unfolding dropCR endsWithCR
+dropped-size [] = refl
+dropped-size (b ∷ []) = go (eqb b CR)
+  where
+    go : (c : Bool) → length (cond c [] (b ∷ [])) + crSize c ≡ 1
+    go true = refl
+    go false = refl
+dropped-size (b ∷ (c ∷ s)) = omega (arith, dropped-size (c ∷ s))
+
+pub ended-long : (s : Bytes) → isLong (endedLine s) ≡ ltb lineLimit (length s)
+unfolding isLong endedLine
+ended-long s = rw (dropped-size s)
+
+pub last-long : (s : Bytes) → isLong (lastLine s) ≡ ltb lineLimit (length s)
+unfolding lastLine
+last-long s = sym (long-none s false refl)
 
 pub short-line : (s : Bytes) (cr r : Bool) → r ≡ isLong (lineOf s cr) → r ≡ false → length s ≤ lineLimit
 unfolding isLong

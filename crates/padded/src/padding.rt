@@ -1,10 +1,10 @@
 // Texts padded at the end with spaces.
 ghost use mathlib.Core.Path.{_≡_};
-ghost use Prim.Native.Nat.{_<_};
-ghost use lib.ListN.{length};
+ghost use Prim.Native.Nat.{_<_, _≤_};
+ghost use lib.ListN.{length, getD};
 ghost use Rattle.text.specs.Byte.{isDigit, every};
 ghost use Rattle.text.specs.Identifier.{esiIdSize, dunsSize};
-ghost use Rattle.padded.specs.Padding.{isSpace, isPaddedEsiId, isPaddedDuns};
+ghost use Rattle.padded.specs.Padding.{space, isSpace, pad, isPaddedEsiId, isPaddedDuns};
 ghost use Rattle.padded.specs.Private.{isPadded, spacesLast};
 use text::bytes::is_alnum;
 use text::bytes::is_digit;
@@ -80,4 +80,26 @@ pub fn is_padded_duns(s: &[u8]) -> bool
     let nine = &s[..9];
     let rest = &s[9..];
     all_digits(nine) & (all_digits(rest) | all_spaces(rest))
+}
+
+// The byte at a place of a text that spaces follow.
+fn byte_at(text: &[u8], i: usize) -> u8
+    ensures { λ r. ⌜ r ≡ getD (now (text .entry)) i space ⌝ }
+{
+    if i < text.len() {
+        return text[i];
+    }
+    SPACE
+}
+
+// Puts a text with spaces behind it, as many bytes as there are.
+pub fn put_padded(to: &mut [u8], text: &[u8])
+    requires { ⌜ length (now text) ≤ length (now to) ⌝ }
+    ensures { λ _. ⌜ now (to .exit) ≡ pad (length (now (to .entry))) (now (text .entry)) ⌝ }
+{
+    let mut i: usize = 0;
+    while i < to.len() {
+        to[i] = byte_at(text, i);
+        i += 1;
+    }
 }
