@@ -16,7 +16,7 @@ use Rattle.text.proofs.Truth.{apart}
 use Rattle.text.proofs.Class.{digit-of}
 use Rattle.details.specs.Value.{partDigits}
 use Rattle.direct.specs.Guess.{DigitIf, Writes, Room, wholeTaken}
-use Rattle.direct.proofs.Every.{every-append}
+use Rattle.text.proofs.Class.{every-append}
 
 -- ONE BYTE: x is what is left of b when 48 is taken from it, wrapped
 pub digit-on : (on : Bool) (b x r : ℕ) → (x + 48) % 2 ^ 8 ≡ b → r ≡ x → x < 2 ^ 8 → on ≡ true → DigitIf on b r

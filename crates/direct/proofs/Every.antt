@@ -17,12 +17,6 @@ use Rattle.direct.specs.Guess.{inValue}
 abbrev pub inLine : ℕ → Bool
 inLine b = not (eqb b LF || eqb b CR)
 
-pub every-append : (class : ℕ → Bool) (a b : Bytes) → every class a ≡ true → every class b ≡ true → every class (a ++ b) ≡ true
-unfolding every
-every-append class [] b h g = g
-every-append class (x ∷ a) b h g =
-    and-both (class x) (every class (a ++ b)) (and-left (class x) (every class a) h) (every-append class a b (and-right (class x) (every class a) h) g)
-
 every-within : (class wider : ℕ → Bool) → ((b : ℕ) → class b ≡ true → wider b ≡ true) → (s : Bytes) → every class s ≡ true → every wider s ≡ true
 unfolding every
 every-within class wider g [] h = refl

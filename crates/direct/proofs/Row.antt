@@ -28,7 +28,8 @@ use Rattle.direct.specs.declared.Direct.{Direct}
 use Rattle.direct.specs.declared.Direct.the-variants.{Line, Other}
 use Rattle.direct.specs.declared.Triple.{Triple}
 use Rattle.direct.specs.declared.Triple.the-variants.{Read}
-use Rattle.direct.proofs.Every.{inLine, every-append, plain-comma, plain-line, line-LF, line-CR}
+use Rattle.text.proofs.Class.{every-append}
+use Rattle.direct.proofs.Every.{inLine, plain-comma, plain-line, line-LF, line-CR}
 
 -- ONE INTERVAL: s is its text, and then the rest
 pub record Next (s : Bytes) (i : Interval) (rest : Bytes) : Type 0 where

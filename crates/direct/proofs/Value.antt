@@ -20,7 +20,8 @@ use Rattle.details.specs.Value.{point, wholeDigits, partDigits, isNegative, wat
 use Rattle.direct.specs.Guess.{Room, Layout, Writes, BeginsValue, BeginsTriple, valueSays, inValue, tail, statusByte, valueSize, tailSize, wholeTaken, wholeMost, partMost}
 use Rattle.direct.specs.declared.guess.Value.{Value}
 use Rattle.direct.specs.declared.guess.Value.the-variants.{WattHours}
-use Rattle.direct.proofs.Every.{every-append, digits-plain}
+use Rattle.text.proofs.Class.{every-append}
+use Rattle.direct.proofs.Every.{digits-plain}
 use Rattle.direct.proofs.Digit.{exact}
 
 -- DIGITS AT THE FRONT of a text

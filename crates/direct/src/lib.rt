@@ -23,6 +23,7 @@ ghost use Rattle.direct.specs.Guess.{windowSize, codeSize, tailSize, Roo
 use crate::guess::Value;
 use crate::guess::read_value;
 use details::detail::Interval;
+use lines::line::LF;
 
 mod guess;
 
@@ -47,8 +48,6 @@ const INTERVALS: usize = 4;
 
 // Behind a value: comma, status, comma, the empty field, comma.
 const TAIL: usize = 4;
-
-const LF: u8 = 10;
 
 // Whether a comma stands at a place, and two behind the byte that follows it.
 fn has_commas(t: &[u8], at: usize) -> bool

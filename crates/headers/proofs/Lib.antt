@@ -3,3 +3,4 @@ pub mod Moment
 pub mod Span
 pub mod Forms
 pub mod Pairs
+pub mod Passed

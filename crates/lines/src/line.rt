@@ -5,6 +5,8 @@ ghost use Rattle.lines.specs.Answer.{lineOf};
 use text::bytes::begins;
 
 // The most bytes of a line that is not long, its CR included.
+pub const LF: u8 = b'\n';
+
 pub const LINE_LIMIT: usize = 200;
 
 const CR: u8 = 13;

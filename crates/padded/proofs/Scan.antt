@@ -8,19 +8,10 @@ use native.Mathlib.Omega.{arith}
 use lib.Dec.{eqb}
 use lib.ListN.{length, getD, drop}
 use Rattle.text.specs.Byte.{Bytes, isAlnum, every, equals}
+use Rattle.text.proofs.Class.{every-step}
 use Rattle.text.proofs.Left.{left-cons, left-none}
 use Rattle.padded.specs.Padding.{isSpace}
 use Rattle.padded.specs.Private.{isPadded, spacesLast}
-
--- every byte is of the class
-module _ (class : ℕ → Bool) (s : Bytes) (i : ℕ) (ok : Bool) (inv : every class s ≡ (ok && every class (drop i s))) where
-  pub every-step : (r : Bool) → i < length s → r ≡ class (getD s i 0) → every class s ≡ ((ok && r) && every class (drop (i + 1) s))
-  unfolding every
-  every-step r h e = inv ∙ rw (left-cons s i h, e) (sym (and-assoc ok (class (getD s i 0)) (every class (drop (i + 1) s))))
-
-  pub every-end : length s ≤ i → ok ≡ every class s
-  unfolding every
-  every-end h = sym (inv ∙ rw (left-none s i h) (and-true ok))
 
 pub padded-step : (s : Bytes) (i : ℕ) (ok : Bool) → every isPadded s ≡ (ok && every isPadded (drop i s)) → (r : Bool) → i < length s
     → r ≡ isAlnum (getD s i 0) → every isPadded s ≡ ((ok && (r || isSpace (getD s i 0))) && every isPadded (drop (i + 1) s))

@@ -12,7 +12,7 @@ use borrow.Author.Tests.{ltb-false, le-ltb}
 use Rattle.lines.specs.Verdict.{long}
 use Rattle.cell.specs.Layout.{Words, width}
 use Rattle.cells.specs.Refusal.{done, badState, badRegistry, shortTable, shortReport, tooManyBytes}
-use Rattle.plain.specs.Call.{byteLimit, roomFor, Asked, feed, finish, Call, pieceOf, Plain, fresh, Done, answerOf, tableAfter, refusedBy, doneCall, byNumber, plainCall, plainAnswers, plainTable}
+use Rattle.plain.specs.Call.{byteLimit, roomFor, Asked, feed, finish, Call, pieceOf, Plain, fresh, Done, answerOf, tableAfter, refusedBy, refusedAt, doneCall, byNumber, plainCall, plainAnswers, plainTable}
 use Rattle.plain.specs.Claim.{callsOf, answersOf, lastTable}
 use Rattle.plain.specs.Loader.{OpenUnit, noUnit, takesRows, waits, skips, Scan, scan, entriesOf, loadsOf, scanTo, scanEvents}
 use Rattle.plain.specs.Promise.{keptLimit, cutTo, detailsIn, View, viewFrom, overfull, Coded, Made, callOf, entriesRead, madeAnswer, codeNumber, codeCall, Chain}
@@ -46,7 +46,7 @@ module _ (R : Rules) (L : Lawful R) where
     pub few : taken + length (pieceOf (c .asked)) ≤ byteLimit
 
   pub allowed : (size taken : ℕ) (c : Call) → refusedBy R size taken c ≡ 0 → Allowed size taken c
-  unfolding refusedBy
+  unfolding refusedAt
   allowed size taken c h = go (R .sound) refl (ltb size (R .cells * width)) refl (ltb (c .room) (roomFor (length (pieceOf (c .asked))))) refl (ltb byteLimit (taken + length (pieceOf (c .asked)))) refl
     where
       go : (p : Bool) → R .sound ≡ p → (q : Bool) → ltb size (R .cells * width) ≡ q
@@ -60,7 +60,7 @@ module _ (R : Rules) (L : Lawful R) where
           record { sound = ep; long = ltb-false _ _ eq; room = ltb-false _ _ er; few = ltb-false _ _ es }
 
   pub not-refused : (size taken : ℕ) (c : Call) → Allowed size taken c → refusedBy R size taken c ≡ 0
-  unfolding refusedBy
+  unfolding refusedAt
   not-refused size taken c a =
       rw (a .sound, le-ltb size (R .cells * width) (a .long), le-ltb (c .room) (roomFor (length (pieceOf (c .asked)))) (a .room), le-ltb byteLimit (taken + length (pieceOf (c .asked))) (a .few))
 
@@ -99,7 +99,7 @@ module _ (R : Rules) (L : Lawful R) where
       details-le (waits f l r) h = omega arith
       details-le skips h = omega arith
 
-  pub cut-alike : (p : Plain) → AlikeScan R L (cutTo keptLimit p .scanned) (p .scanned)
+  pub cut-alike : (p : Plain) → AlikeScan R L (cutTo p .scanned) (p .scanned)
   unfolding cutTo
   cut-alike p = record { kept = take-take keptLimit keptLimit (p .scanned .kept) (omega arith); lines = refl; unit = refl }
 
@@ -114,22 +114,22 @@ module _ (R : Rules) (L : Lawful R) where
   abbrev cutDone : Done → Coded
   cutDone d = record { number = d .number; events = d .events; next = viewFrom (d .next) }
 
-  cut-taken : (p : Plain) → cutTo keptLimit p .taken ≡ p .taken
+  cut-taken : (p : Plain) → cutTo p .taken ≡ p .taken
   unfolding cutTo
   cut-taken p = refl
 
-  done-cut : (p : Plain) (a : Asked) → cutDone (doneCall R (cutTo keptLimit p) a) ≡ cutDone (doneCall R p a)
+  done-cut : (p : Plain) (a : Asked) → cutDone (doneCall R (cutTo p) a) ≡ cutDone (doneCall R p a)
   unfolding doneCall
   done-cut p (feed x) = λ i.
       record {
         number = 0;
-        events = events-alike R L (cutTo keptLimit p .scanned) (p .scanned) x (cut-alike p) i;
-        next = (ap (λ n. viewFrom (record { scanned = scanTo R (cutTo keptLimit p .scanned) x; taken = n + length x })) (cut-taken p)
-            ∙ alike-cut (scanTo R (cutTo keptLimit p .scanned) x) (scanTo R (p .scanned) x) (p .taken + length x)
-            (scan-alike R L (cutTo keptLimit p .scanned) (p .scanned) x (cut-alike p))) i;
+        events = events-alike R L (cutTo p .scanned) (p .scanned) x (cut-alike p) i;
+        next = (ap (λ n. viewFrom (record { scanned = scanTo R (cutTo p .scanned) x; taken = n + length x })) (cut-taken p)
+            ∙ alike-cut (scanTo R (cutTo p .scanned) x) (scanTo R (p .scanned) x) (p .taken + length x)
+            (scan-alike R L (cutTo p .scanned) (p .scanned) x (cut-alike p))) i;
       }
   done-cut p finish = λ i.
-      record { number = 0; events = finish-alike R L (cutTo keptLimit p .scanned) (p .scanned) (cut-alike p) i; next = viewFrom fresh }
+      record { number = 0; events = finish-alike R L (cutTo p .scanned) (p .scanned) (cut-alike p) i; next = viewFrom fresh }
 
   call-cut : (size : ℕ) (p : Plain) (c : Call) → Kept p → codeCall R size (viewFrom p) c ≡ cutDone (plainCall R size p c)
   unfolding codeCall plainCall codeNumber byNumber viewFrom cutTo
@@ -185,7 +185,7 @@ module _ (R : Rules) (L : Lawful R) where
 
   -- refusal 1 is none of what the plain loader answers
   refused-not-bad : (size taken : ℕ) (c : Call) → ¬ (refusedBy R size taken c ≡ badState)
-  unfolding refusedBy
+  unfolding refusedAt
   refused-not-bad size taken c =
       go (R .sound) (ltb size (R .cells * width)) (ltb (c .room) (roomFor (length (pieceOf (c .asked))))) (ltb byteLimit (taken + length (pieceOf (c .asked))))
     where

@@ -3,7 +3,7 @@
 -- Assumes nothing.
 use mathlib.Core.Path.{_≡_}
 use mathlib.Core.Bool.{true, false}
-use Prim.Native.Nat.{ℕ, _<_, _≤_}
+use Prim.Native.Nat.{_<_, _≤_}
 use lib.ListN.{length}
 use Rattle.lines.specs.Line.{Line, isLong}
 use Rattle.lines.specs.Verdict.{long}

@@ -6,6 +6,7 @@ pub mod WholeRecord
 -- One file: pieces, lines, the two seams, lines further down, and where an event's unit began.
 pub mod Pieces
 pub mod Lines
+pub mod LineScan
 pub mod Seams
 pub mod Seam
 pub mod Raise
@@ -17,6 +18,7 @@ pub mod Bounds
 pub mod Loads
 pub mod Latest
 pub mod Good
+pub mod Few
 -- Calls: 201 bytes are enough, so is the room; a chain of calls, and one that takes a file.
 pub mod Kept
 pub mod Room

@@ -37,7 +37,7 @@ use Rattle.plain.specs.Rows.{begins, firstRow, withRow, checked, afterDe
 use Rattle.plain.specs.Table.{loadOne, loadAll}
 use Rattle.plain.specs.Loader.{entryOf, close, settle, entriesOf, loadsOf, stepKind, stepLine}
 use Rattle.plain.specs.Loader.{byteTo, byteEvents, scanTo, scanEvents, endAt, endEvents}
-use Rattle.plain.specs.Call.{fresh, refusedBy, doneCall, byNumber, plainCall, plainAnswers, plainTable}
+use Rattle.plain.specs.Call.{fresh, refusedAt, doneCall, byNumber, plainCall, plainAnswers, plainTable}
 use Rattle.plain.specs.Claim.{joined, oneFile, alone, aloneTable}
 
 -- a window of one day, 20080510, and no meter
@@ -88,7 +88,7 @@ pub record Samples : Type 0 where
   pub surplus-report : alone (rulesOf oneMeter) emptyTable (recordText 25) ≡ entryOf 1 22 30 1 20080510 ∷ []
 
 pub samples : Samples
-unfolding alone aloneTable joined plainAnswers plainTable plainCall byNumber refusedBy doneCall
+unfolding alone aloneTable joined plainAnswers plainTable plainCall byNumber refusedAt doneCall
     scanEvents scanTo byteEvents byteTo stepLine stepKind endEvents endAt close settle entriesOf loadsOf loadAll loadOne
     rulesOf firstRow begins nextRow dueRow detailRow afterDetail withRow checked
     endedLine dropCR endsWithCR isLong kindOf fieldsOf cut isEmpty equals startsWith every numberFrom digitsOf leading behind isName isDuns

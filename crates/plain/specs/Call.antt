@@ -65,14 +65,17 @@ module _ (R : Rules) where
   abbrev pub tableAfter : Words → Done → Words
   tableAfter table d = loadAll R table (loadsOf (d .events))
 
-  -- 2 to 5, tested in this order, 0 where none holds; `size` is the table's length. Finish has no piece, so that no 5 can come up.
-  unfoldable pub refusedBy : ℕ → ℕ → Call → ℕ
-  refusedBy size taken c =
-      let n : ℕ = length (pieceOf (c .asked)) in
+  -- 2 to 5, tested in this order, 0 where none holds: by the table's length, the bytes taken, the report's length and the piece's. Finish has no
+  -- piece, so that no 5 can come up.
+  unfoldable pub refusedAt : ℕ → ℕ → ℕ → ℕ → ℕ
+  refusedAt size taken room n =
       cond (not (R .sound)) badRegistry
       (cond (ltb size (R .cells * width)) shortTable
-      (cond (ltb (c .room) (roomFor n)) shortReport
+      (cond (ltb room (roomFor n)) shortReport
       (cond (ltb byteLimit (taken + n)) tooManyBytes done)))
+
+  abbrev pub refusedBy : ℕ → ℕ → Call → ℕ
+  refusedBy size taken c = refusedAt size taken (c .room) (length (pieceOf (c .asked)))
 
   -- feed takes the piece; finish starts all but the table anew
   unfoldable pub doneCall : Plain → Asked → Done

@@ -7,7 +7,7 @@ use Prim.Native.Nat.{ℕ, suc}
 use lib.Dec.{eqb}
 use Rattle.text.specs.Byte.{Bytes}
 use Rattle.lines.specs.Line.{LF, Line, endedLine, lastLine, kindOf}
-use Rattle.lines.specs.Verdict.{stray, short, surplus}
+use Rattle.lines.specs.Verdict.{loaded, stray, short, surplus}
 use Rattle.lines.specs.declared.line.Kind.{Kind}
 use Rattle.lines.specs.declared.line.Kind.the-variants.{Empty, Opener, Detail, Other}
 use Rattle.plain.specs.declared.Entry.{Entry}
@@ -43,7 +43,7 @@ meterOf r = suc (r .load .meter)
 
 -- verdict 0; the deciding line is that of the last row
 abbrev pub loading : ℕ → ℕ → Record → Event
-loading first last r = record { entry = entryOf first 0 last (meterOf r) (r .day); load = some (r .load) }
+loading first last r = record { entry = entryOf first loaded last (meterOf r) (r .day); load = some (r .load) }
 
 -- At an opener, line n, or at finish, n then being one past the lines: a unit that takes rows gets 12, one that waits loads.
 unfoldable pub close : ℕ → OpenUnit → List Event

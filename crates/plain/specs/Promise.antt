@@ -14,19 +14,18 @@ use Rattle.cells.specs.Refusal.{badState}
 use Rattle.plain.specs.declared.Entry.{Entry}
 use Rattle.plain.specs.Rows.{Rules, maxDetails, detailsOf}
 use Rattle.plain.specs.Table.{loadAll}
-use Rattle.plain.specs.Loader.{OpenUnit, noUnit, takesRows, waits, skips, Event, scan, entriesOf, loadsOf}
+use Rattle.plain.specs.Loader.{OpenUnit, noUnit, takesRows, waits, skips, Event, Scan, scan, entriesOf, loadsOf}
 use Rattle.plain.specs.Call.{byteLimit, Asked, Call, Answer, Plain, Done, refusedBy, doneCall}
 
 -- The real calls keep at most the first 201 bytes of a line: these tell its kind, and that it is long.
 abbrev pub keptLimit : ℕ
 keptLimit = lineLimit + 1
 
-unfoldable pub cutTo : ℕ → Plain → Plain
-cutTo n p =
-    record {
-      scanned = scan (take n (p .scanned .kept)) (p .scanned .lines) (p .scanned .unit);
-      taken = p .taken;
-    }
+abbrev pub cutScan : Scan → Scan
+cutScan s = scan (take keptLimit (s .kept)) (s .lines) (s .unit)
+
+unfoldable pub cutTo : Plain → Plain
+cutTo p = record { scanned = cutScan (p .scanned); taken = p .taken }
 
 -- the detail rows that a unit holds
 abbrev pub detailsIn : OpenUnit → ℕ
@@ -41,7 +40,7 @@ pub record View : Type 0 where
   pub held : ℕ
 
 unfoldable pub viewFrom : Plain → View
-viewFrom p = record { plain = cutTo keptLimit p; held = length (take keptLimit (p .scanned .kept)) }
+viewFrom p = record { plain = cutTo p; held = length (take keptLimit (p .scanned .kept)) }
 
 -- 1: over 201 line bytes, 200,000,000 bytes taken, 25 detail rows, or more lines than bytes
 unfoldable pub overfull : View → Bool

@@ -1,8 +1,8 @@
 -- Classes of bytes: the scan of a text for a byte outside a class, and the range of a digit.
 -- Assumes nothing.
 use mathlib.Core.Path.{_≡_, refl, sym, _∙_}
-use mathlib.Core.List.{[], _∷_}
-use mathlib.Core.Bool.{Bool, true, false, not}
+use mathlib.Core.List.{[], _∷_, _++_}
+use mathlib.Core.Bool.{Bool, true, false, not, _&&_, and-true, and-assoc}
 use Prim.Native.Nat.{ℕ, zero, suc, _+_, _-_, _<_, _≤_}
 use native.Mathlib.Omega.{arith}
 use native.Mathlib.Nat.{not-suc-le-zero, le-of-suc-le-suc}
@@ -67,3 +67,19 @@ module _ (class : ℕ → Bool) (s : Bytes) (i : ℕ) (inv : every class s ≡ e
   pub every-last : length s ≤ i → true ≡ every class s
   unfolding every
   every-last h = sym (inv ∙ rw (left-none s i h))
+
+pub every-append : (class : ℕ → Bool) (a b : Bytes) → every class a ≡ true → every class b ≡ true → every class (a ++ b) ≡ true
+unfolding every
+every-append class [] b h g = g
+every-append class (x ∷ a) b h g =
+    and-both (class x) (every class (a ++ b)) (and-left (class x) (every class a) h) (every-append class a b (and-right (class x) (every class a) h) g)
+
+-- a scan that does not stop early: what it has found so far, and what is left
+module _ (class : ℕ → Bool) (s : Bytes) (i : ℕ) (ok : Bool) (inv : every class s ≡ (ok && every class (drop i s))) where
+  pub every-step : (r : Bool) → i < length s → r ≡ class (getD s i 0) → every class s ≡ ((ok && r) && every class (drop (i + 1) s))
+  unfolding every
+  every-step r h e = inv ∙ rw (left-cons s i h, e) (sym (and-assoc ok (class (getD s i 0)) (every class (drop (i + 1) s))))
+
+  pub every-end : length s ≤ i → ok ≡ every class s
+  unfolding every
+  every-end h = sym (inv ∙ rw (left-none s i h) (and-true ok))

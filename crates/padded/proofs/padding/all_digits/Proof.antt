@@ -7,7 +7,7 @@ use native.Mathlib.Omega.{arith}
 use lib.ListN.{length, drop}
 use borrow.Author.Needs.{needs}
 use Rattle.text.specs.Byte.{every, isDigit}
-use Rattle.padded.proofs.Scan.{every-step, every-end}
+use Rattle.text.proofs.Class.{every-step, every-end}
 use Rattle.padded.proofs.padding.all_digits.Statement.{statement}
 use Rattle.padded.proofs.padding.all_digits.Tie as tie
 

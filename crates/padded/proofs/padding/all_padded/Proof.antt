@@ -8,7 +8,8 @@ use lib.ListN.{length, drop}
 use borrow.Author.Needs.{needs}
 use Rattle.text.specs.Byte.{every}
 use Rattle.padded.specs.Private.{isPadded}
-use Rattle.padded.proofs.Scan.{padded-step, every-end}
+use Rattle.text.proofs.Class.{every-end}
+use Rattle.padded.proofs.Scan.{padded-step}
 use Rattle.padded.proofs.padding.all_padded.Statement.{statement}
 use Rattle.padded.proofs.padding.all_padded.Tie as tie
 

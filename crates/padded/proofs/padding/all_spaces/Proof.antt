@@ -8,7 +8,7 @@ use lib.ListN.{length, drop}
 use borrow.Author.Needs.{needs}
 use Rattle.text.specs.Byte.{every}
 use Rattle.padded.specs.Padding.{isSpace}
-use Rattle.padded.proofs.Scan.{every-step, every-end}
+use Rattle.text.proofs.Class.{every-step, every-end}
 use Rattle.padded.proofs.padding.all_spaces.Statement.{statement}
 use Rattle.padded.proofs.padding.all_spaces.Tie as tie
 

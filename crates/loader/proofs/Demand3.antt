@@ -1,0 +1,134 @@
+-- DEMAND 3 over lists of real calls of feed and finish, through the contracts that Rattle makes of the source. The claim is plain/specs/Claim.
+--
+-- A real call has its lifetimes, its arguments, its result, and its lent slices at exit. `says` of a function is its `ensures` as Rattle has it, in
+-- every model of the logic; `told` reads it, and what a caller learns of it is `Met`. So a changed `ensures` breaks the theorem.
+-- Assumes nothing.
+use mathlib.Core.Path.{_≡_, refl, subst}
+use mathlib.Core.List.{List, [], _∷_, map}
+use contract.Lifetimes
+use borrow.Fn.Read
+use borrow.Fn.World
+use borrow.Fn.Claims.{AllOf}
+use denote.Triple.Clauses
+use Rattle.text.specs.Byte.{Bytes}
+use Rattle.cell.specs.Layout.{Words}
+use Rattle.plain.specs.Rows.{rulesOf}
+use Rattle.plain.specs.Call.{fresh, feed, finish}
+use Rattle.plain.specs.Promise.{viewFrom, Made, Promise, Chain}
+use Rattle.plain.specs.Claim.{Demand3}
+use Rattle.plain.proofs.Demand3.{demand3}
+use Rattle.loader.specs.declared.State.{State}
+use Rattle.loader.specs.View.{viewOf, madeOf, Keeps}
+use Rattle.loader.proofs.fresh as freshes
+use Rattle.loader.proofs.feed as feeds
+use Rattle.loader.proofs.finish as finishes
+
+-- ---- the calls
+
+pub record FreshCall : Type 0 where
+  pub result : World.ResD freshes.signature tt
+
+pub record FeedCall : Type 0 where
+  pub κs : Lifetimes.Lfts 4
+  pub args : World.ArgsD feeds.signature κs
+  pub result : World.ResD feeds.signature κs
+  pub exit : Clauses.AtExit feeds.ended κs
+
+pub record FinishCall : Type 0 where
+  pub κs : Lifetimes.Lfts 3
+  pub args : World.ArgsD finishes.signature κs
+  pub result : World.ResD finishes.signature κs
+  pub exit : Clauses.AtExit finishes.ended κs
+
+pub data RealCall : Type 0 where
+  fed : FeedCall → RealCall
+  finished : FinishCall → RealCall
+
+-- ---- their contracts
+
+abbrev pub fresh-says : (c : FreshCall) (w : World.World) → World.Pr w
+fresh-says c w = freshes.clauses (w .𝓤) (w .H) (w .𝓖 .A) (w .𝓜 .mem) (w .𝓡 .run) tt tt .ensures tt (c .result) tt
+
+abbrev pub feed-says : (c : FeedCall) (w : World.World) → World.Pr w
+feed-says c w = feeds.clauses (w .𝓤) (w .H) (w .𝓖 .A) (w .𝓜 .mem) (w .𝓡 .run) (c .κs) (c .args) .ensures tt (c .result) (c .exit)
+
+abbrev pub finish-says : (c : FinishCall) (w : World.World) → World.Pr w
+finish-says c w = finishes.clauses (w .𝓤) (w .H) (w .𝓖 .A) (w .𝓜 .mem) (w .𝓡 .run) (c .κs) (c .args) .ensures tt (c .result) (c .exit)
+
+abbrev pub fresh-told : (c : FreshCall) → Read.Read (World.In freshes.signature tt tt) Read.no-know (fresh-says c)
+fresh-told c = Read.all-models (fresh-says c) (λ w. search Read.reads) (λ w. refl) (λ w. refl) (λ w. refl)
+
+abbrev pub feed-told : (c : FeedCall) → Read.Read (World.In feeds.signature (c .κs) (c .args)) Read.no-know (feed-says c)
+feed-told c = Read.all-models (feed-says c) (λ w. search Read.reads) (λ w. refl) (λ w. refl) (λ w. refl)
+
+abbrev pub finish-told : (c : FinishCall) → Read.Read (World.In finishes.signature (c .κs) (c .args)) Read.no-know (finish-says c)
+finish-told c = Read.all-models (finish-says c) (λ w. search Read.reads) (λ w. refl) (λ w. refl) (λ w. refl)
+
+-- a state that fresh gave, and a call that met its function's contract
+abbrev pub Begun : FreshCall → Type 0
+Begun c = AllOf (fresh-told c .tells)
+
+abbrev pub Met : RealCall → Type 0
+Met (fed c) = AllOf (feed-told c .tells)
+Met (finished c) = AllOf (finish-told c .tells)
+
+-- ---- what the claim tells of a call
+
+abbrev pub registryIn : RealCall → Bytes
+registryIn (fed c) = c .args .1 .1 .0 .now
+registryIn (finished c) = c .args .1 .0 .now
+
+abbrev pub stateIn : RealCall → State
+stateIn (fed c) = c .args .0
+stateIn (finished c) = c .args .0
+
+abbrev pub tableIn : RealCall → Words
+tableIn (fed c) = c .args .1 .1 .1 .0 .now
+tableIn (finished c) = c .args .1 .1 .0 .now
+
+abbrev pub stateOut : RealCall → State
+stateOut (fed c) = c .result .state
+stateOut (finished c) = c .result .state
+
+abbrev pub tableOut : RealCall → Words
+tableOut (fed c) = c .exit .1 .1 .1 .0 .now
+tableOut (finished c) = c .exit .1 .1 .0 .now
+
+abbrev pub toldOf : RealCall → Made
+toldOf (fed c) = madeOf (feed (c .args .1 .0 .now)) (c .args .1 .1 .1 .1 .0 .now) (c .result) (c .exit .1 .1 .1 .0 .now) (c .exit .1 .1 .1 .1 .0 .now)
+toldOf (finished c) = madeOf finish (c .args .1 .1 .1 .0 .now) (c .result) (c .exit .1 .1 .0 .now) (c .exit .1 .1 .1 .0 .now)
+
+-- a contract met is the promise, by computation
+promised : (c : RealCall) → Met c → Promise (rulesOf (registryIn c)) (viewOf (stateIn c)) (tableIn c) (toldOf c)
+promised (fed c) p = p .promise
+promised (finished c) p = p .promise
+
+after-told : (c : RealCall) → toldOf c .after ≡ viewOf (stateOut c)
+after-told (fed c) = refl
+after-told (finished c) = refl
+
+table-told : (c : RealCall) → toldOf c .table ≡ tableOut c
+table-told (fed c) = refl
+table-told (finished c) = refl
+
+-- ---- a list of calls over one registry: each gets the state that the one before it returned, and the table as that one left it
+
+abbrev pub Linked : Bytes → State → Words → List RealCall → Type 0
+Linked reg s t [] = Unit {0}
+Linked reg s t (c ∷ cs) = Met c × (registryIn c ≡ reg) × (stateIn c ≡ s) × (tableIn c ≡ t) × Linked reg (stateOut c) (tableOut c) cs
+
+chained : (reg : Bytes) (s : State) (t : Words) (cs : List RealCall) → Linked reg s t cs → Chain (rulesOf reg) (viewOf s) t (map toldOf cs)
+unfolding Chain
+chained reg s t [] h = tt
+chained reg s t (c ∷ cs) h =
+    let p : Promise (rulesOf reg) (viewOf s) t (toldOf c)
+    = subst (λ u. Promise (rulesOf reg) (viewOf s) u (toldOf c)) (h .3)
+    (subst (λ x. Promise (rulesOf reg) (viewOf x) (tableIn c) (toldOf c)) (h .2)
+    (subst (λ r. Promise (rulesOf r) (viewOf (stateIn c)) (tableIn c) (toldOf c)) (h .1) (promised c (h .0)))) in
+    (p, rw (after-told c, table-told c) (chained reg (stateOut c) (tableOut c) cs (h .4)))
+
+-- DEMAND 3: for every registry, every table, every state that fresh gave, and every list of calls
+pub demand3-of-calls : (reg : Bytes) (t : Words) (b : FreshCall) → Begun b → (cs : List RealCall) → Linked reg (b .result) t cs
+    → Demand3 (rulesOf reg) t (map toldOf cs)
+demand3-of-calls reg t b begun cs h =
+    demand3 reg t (map toldOf cs) (subst (λ v. Chain (rulesOf reg) v t (map toldOf cs)) begun (chained reg (b .result) t cs h))

@@ -1,0 +1,16 @@
+-- Laws of the definitions, and what the proofs of the calls share.
+-- What a call returns, and how a feed begins.
+pub mod Refusals
+pub mod Starting
+-- The batches of a feed, and the end of a file.
+pub mod NextBatch
+pub mod Batching
+pub mod Ending
+-- For the walks of put_batch, feed and finish: entries put into a list, a table or report that is lent again, and each callee's contract as a step.
+pub mod Pasting
+pub mod Bodies
+pub mod Tests
+pub mod LentAgain
+pub mod Passing
+-- Demand 3 over the calls.
+pub mod Demand3

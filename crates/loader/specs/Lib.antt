@@ -1,0 +1,3 @@
+-- What the calls promise: the view of a state, the batches that a call works in, and the promise itself.
+pub mod View
+pub mod Batch

@@ -1,0 +1,61 @@
+-- Bytes of a piece without an LF: more of them, by a stride or by one.
+-- Assumes nothing.
+use mathlib.Core.Path.{_≡_, sym, ap, _∙_}
+use mathlib.Core.List.{[], _∷_, _++_}
+use mathlib.Core.Bool.{Bool, true, false, not}
+use Prim.Native.Nat.{ℕ, suc, _+_, _-_, _<_, _≤_}
+use native.Mathlib.Omega.{arith}
+use lib.ListN.{length, drop, getD}
+use lib.Seq.{take-add, drop-drop, drop-cons}
+use borrow.Author.Tests.{ne-eqb, not-false}
+use Rattle.text.specs.Byte.{Bytes, every}
+use Rattle.text.proofs.Class.{every-append}
+use Rattle.lines.specs.Line.{LF}
+use Rattle.pieces.specs.Ran.{isOther, between, NoneTo, LineEnd}
+
+-- a part of the piece, in two
+pub between-add : (piece : Bytes) (at mid end : ℕ) → at ≤ mid → mid ≤ end → between at end piece ≡ between at mid piece ++ between mid end piece
+between-add piece at mid end h g =
+    let n : end - at ≡ mid - at + (end - mid) = omega arith in
+    let m : at + (mid - at) ≡ mid = omega arith in
+    let e : drop (mid - at) (drop at piece) ≡ drop mid piece = drop-drop (mid - at) at piece ∙ ap (λ i. drop i piece) m in
+    rw n (take-add (mid - at) (end - mid) (drop at piece) ∙ rw e)
+
+pub none-here : (piece : Bytes) (at : ℕ) → at ≤ length piece → NoneTo piece at at
+unfolding every
+none-here piece at h =
+    let z : at - at ≡ 0 = omega arith in
+    record { behind = omega arith; within = h; clean = rw z }
+
+module _ (piece : Bytes) (at e : ℕ) (n : NoneTo piece at e) where
+  pub none-more : (end : ℕ) → e ≤ end → end ≤ length piece → every isOther (between e end piece) ≡ true → NoneTo piece at end
+  none-more end h g clean =
+      record {
+        behind = omega (arith, n .behind);
+        within = g;
+        clean = rw (between-add piece at e end (n .behind) h) (every-append isOther (between at e piece) (between e end piece) (n .clean) clean);
+      }
+
+  -- a stride without one
+  pub stride-none : (end : ℕ) (r : Bool) → e ≤ end → end ≤ length piece → r ≡ every isOther (between e end piece) → not r ≡ false → NoneTo piece at end
+  stride-none end r h g is t = none-more end h g (sym is ∙ not-false r t)
+
+  -- one other byte
+  pub none-next : e < length piece → (getD piece e 0 ≡ LF → ⊥) → NoneTo piece at (e + 1)
+  unfolding every
+  none-next h other =
+      let n1 : e + 1 - e ≡ 1 = omega arith in
+      none-more (e + 1) (omega arith) (omega arith)
+      (rw (n1, drop-cons piece e 0 h, ne-eqb (getD piece e 0) LF other))
+
+  pub ends-here : getD piece e 0 ≡ LF → LineEnd piece at e
+  ends-here found = record { none = n; ends = λ h. found }
+
+  pub ends-behind : length piece ≤ e → LineEnd piece at e
+  ends-behind h = record { none = n; ends = λ g. absurd (omega (arith, g, h)) }
+
+-- a line with its LF
+pub with-LF : (piece : Bytes) (at end : ℕ) → LineEnd piece at end → end < length piece → between at (suc end) piece ≡ between at end piece ++ (LF ∷ [])
+with-LF piece at end e h =
+    let n : suc end - end ≡ 1 = omega arith in
+    between-add piece at end (suc end) (e .none .behind) (omega arith) ∙ rw (n, drop-cons piece end 0 h, e .ends h)

@@ -1,0 +1,99 @@
+-- `pieces::rows::read_rows` meets its contract.
+-- Assumes nothing.
+use Prim.Native.Nat.{_-_, _≤_}
+use native.Mathlib.Omega.{arith}
+use borrow.Author.Needs.{needs}
+use Rattle.pieces.proofs.DirectRows.{line-said, line-within, rows-begin, rows-again}
+use Rattle.pieces.proofs.rows.read_rows.Statement.{statement}
+use Rattle.pieces.specs.Ran.{RowsRan, readTo}
+use Rattle.plain.specs.Rows.{maxDetails}
+use Rattle.pieces.proofs.rows.read_rows.Tie as tie
+
+abbrev Inv-loop : tie.InvT-loop
+Inv-loop p lines piece at words₀ stop k₀ n₀ e₀ words k n e = RowsRan p lines piece at words₀ (readTo p k n e) words × (k ≤ maxDetails)
+
+abbrev μ-loop : tie.MeasureT-loop
+μ-loop p lines piece at words₀ stop k₀ n₀ e₀ words k n e = stop - k
+
+before-last-requires : tie.Need-before-last-requires Inv-loop μ-loop
+before-last-requires c κs = search needs
+
+sub-k : tie.Need-sub-k Inv-loop μ-loop
+sub-k c = search needs
+
+loop-holds : tie.Need-loop-holds Inv-loop μ-loop
+loop-holds c = (rows-begin _ _ _ _ _ ((c .before .before .before .before .pre .1)) ((c .before .before .before .before .pre .2)) ((c .before .before .before .before .pre .3)) ((c .before .before .before .before .pre .4)), omega arith)
+
+read-direct-requires : tie.Need-read-direct-requires Inv-loop μ-loop
+read-direct-requires c κs = search needs
+
+enum-known-a : tie.Need-enum-known-a Inv-loop μ-loop
+enum-known-a c = search needs
+
+enum-told : tie.Need-enum-told Inv-loop μ-loop
+enum-told c = search needs
+
+rows-read-requires : tie.Need-rows-read-requires Inv-loop μ-loop
+rows-read-requires c κs = search needs
+
+same-length : tie.Need-same-length Inv-loop μ-loop
+same-length c = search needs
+
+returns : tie.Need-returns Inv-loop μ-loop
+returns c = rw ((c .rows-read .ensures)) ((c .before .before .before .before .before .loop .inv .0))
+
+put-four-requires : tie.Need-put-four-requires Inv-loop μ-loop
+put-four-requires c κs = search needs
+
+add-e : tie.Need-add-e Inv-loop μ-loop
+add-e c = omega (arith, (c .before .before .before .before .before .before .before .before .before .before .before .before .before .before .good .1 .1 .0 .0), line-within _ _ _ _ _ _ _ _ _ ((c .before .before .before .before .before .before .before .before .before .loop .inv .0)) _ _ (line-said _ _ _ _ _ _ _ _ ((c .before .before .before .before .before .before .before .read-direct .ensures)) ((c .before .before .before .before .before .a .given .1))))
+
+add-e-2 : tie.Need-add-e-2 Inv-loop μ-loop
+add-e-2 c = omega (arith, (c .before .before .before .before .before .before .before .before .before .before .before .before .before .before .good .1 .1 .0 .0), line-within _ _ _ _ _ _ _ _ _ ((c .before .before .before .before .before .before .before .before .before .loop .inv .0)) _ _ (line-said _ _ _ _ _ _ _ _ ((c .before .before .before .before .before .before .before .read-direct .ensures)) ((c .before .before .before .before .before .a .given .1))))
+
+add-n : tie.Need-add-n Inv-loop μ-loop
+add-n c = search needs
+
+add-k : tie.Need-add-k Inv-loop μ-loop
+add-k c = search needs
+
+loop-less : tie.Need-loop-less Inv-loop μ-loop
+loop-less c = search needs
+
+loop-again : tie.Need-loop-again Inv-loop μ-loop
+loop-again c = (rows-again _ _ _ _ _ _ _ _ _ ((c .before .before .before .before .before .before .before .before .before .loop .inv .0)) _ _ (line-said _ _ _ _ _ _ _ _ ((c .before .before .before .before .before .before .before .read-direct .ensures)) ((c .before .before .before .before .before .a .given .1))) (omega arith) (omega arith) _ ((c .before .before .put-four .ensures)) (omega (arith, (c .before .words .given))), omega arith)
+
+rows-read-requires-2 : tie.Need-rows-read-requires-2 Inv-loop μ-loop
+rows-read-requires-2 c κs = search needs
+
+same-length-2 : tie.Need-same-length-2 Inv-loop μ-loop
+same-length-2 c = search needs
+
+returns-2 : tie.Need-returns-2 Inv-loop μ-loop
+returns-2 c = rw ((c .rows-read2 .ensures)) ((c .before .before .loop .inv .0))
+
+pub read-rows-spec : {M : Type 1} → statement M
+read-rows-spec =
+    tie.close
+    (tie.spec
+    Inv-loop
+    μ-loop
+    before-last-requires
+    sub-k
+    loop-holds
+    read-direct-requires
+    enum-known-a
+    enum-told
+    rows-read-requires
+    same-length
+    returns
+    put-four-requires
+    add-e
+    add-e-2
+    add-n
+    add-k
+    loop-less
+    loop-again
+    rows-read-requires-2
+    same-length-2
+    returns-2)
