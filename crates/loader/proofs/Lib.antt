@@ -6,6 +6,8 @@ pub mod Starting
 pub mod NextBatch
 pub mod Batching
 pub mod Ending
+-- The calls with a report of words.
+pub mod WordsLaws
 -- For the walks of put_batch, feed and finish: entries put into a list, a table or report that is lent again, and each callee's contract as a step.
 pub mod Pasting
 pub mod Bodies

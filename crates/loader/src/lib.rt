@@ -13,46 +13,35 @@
 ghost use mathlib.Core.Path.{_≡_};
 ghost use Prim.Native.Nat.{_+_, _-_, _*_, _<_, _≤_};
 ghost use lib.ListN.{length};
-ghost use Rattle.text.specs.Byte.{Bytes};
 ghost use Rattle.text.specs.Identifier.{esiIdSize};
 ghost use Rattle.registry.specs.Entry.{ownerSize};
-ghost use Rattle.registry.specs.Registry.{isSound, maxMeters};
-ghost use Rattle.registry.specs.Index.{Indexes};
-ghost use Rattle.cell.specs.Layout.{Words, width};
-ghost use Rattle.cells.specs.Address.{Sizes, meterCount, dayCount};
-ghost use Rattle.plain.specs.Rows.{headerRows, rulesOf};
-ghost use Rattle.plain.specs.Call.{byteLimit, refusedAt, fresh as freshly};
-ghost use Rattle.plain.specs.Promise.{keptLimit, detailsIn, overfull, viewFrom};
-ghost use Rattle.records.specs.Answer.{Indexed};
-ghost use Rattle.units.specs.Answer.{unitOf, HasRoom};
-ghost use Rattle.pieces.specs.Ran.{scanOf, perEntry, entryAt, entriesIn, Holds};
+ghost use Rattle.registry.specs.Registry.{maxMeters};
+ghost use Rattle.cell.specs.Layout.{width};
+ghost use Rattle.plain.specs.Call.{byteLimit, fresh as freshly};
+ghost use Rattle.plain.specs.Promise.{keptLimit, viewFrom};
+ghost use Rattle.pieces.specs.Ran.{perEntry, entryAt, entriesIn};
 ghost use Rattle.loader.specs.View.{viewOf, FeedKeeps, FinishKeeps};
-ghost use Rattle.loader.specs.Batch.{numberFor, Starts, Goes, Next, Ends, Puts, Small, pasted, fedBy, Counts, idleAt, takenMore, knownBy, HoldsIn, LastLine, Ended};
+ghost use Rattle.loader.specs.Batch.{Starts, Goes, Next, Ends, Puts, Small, pasted, fedBy, idleAt, takenMore};
+
+mod last;
+mod refuse;
+pub mod words;
+
+use crate::last::end_file;
+use crate::refuse::number_for;
 use cell::Cell;
-use cells::cell_count;
-use cells::refusal::BAD_REGISTRY;
-use cells::refusal::BAD_STATE;
 use cells::refusal::DONE;
-use cells::refusal::SHORT_REPORT;
-use cells::refusal::SHORT_TABLE;
-use cells::refusal::TOO_MANY_BYTES;
 use pieces::keep::KEPT_LIMIT;
-use pieces::line::Moved;
 use pieces::run::BATCH_WORDS;
 use pieces::run::PER_ENTRY;
 use pieces::run::put;
 use pieces::run::read_lines;
 use plain::Entry;
-use records::HEADER_ROWS;
 use records::Known;
-use records::MAX_DETAILS;
 use registry::Index;
 use text::names::DUNS_SIZE;
 use text::names::ESI_ID_SIZE;
-use units::Said;
 use units::Unit;
-use units::close;
-use units::step;
 
 // The most bytes that are taken before a finish.
 pub const BYTE_LIMIT: usize = 200_000_000;
@@ -102,86 +91,6 @@ pub fn fresh() -> State
         sender: [b' '; DUNS_SIZE],
         words: [0; Cell::WIDTH],
     }
-}
-
-// The detail rows among so many rows behind row one.
-fn details_of(read: u32) -> u32
-    ensures { λ r. ⌜ r ≡ read - headerRows ⌝ }
-{
-    if read < HEADER_ROWS {
-        return 0;
-    }
-    read - HEADER_ROWS
-}
-
-// The detail rows that a unit holds.
-fn details_in(unit: Unit) -> u32
-    ensures { λ r. ⌜ ((id sender : Bytes) (words : Words) → r ≡ detailsIn (unitOf unit id sender words)) ⌝ }
-{
-    match unit {
-        Unit::None => 0,
-        Unit::Takes(first, p) => details_of(p.read),
-        Unit::Waits(first, last, r) => 0,
-        Unit::Skips => 0,
-    }
-}
-
-// 1: more than a state can hold.
-fn is_overfull(s: State) -> bool
-    ensures { λ r. ⌜ r ≡ overfull (viewOf s) ⌝ }
-{
-    let unit = s.unit;
-    (KEPT_LIMIT < s.held)
-        | (BYTE_LIMIT < s.taken)
-        | (MAX_DETAILS < details_in(unit))
-        | (s.taken < s.lines as usize)
-}
-
-// 2 to 5, in this order: by whether the registry is sound, its meters and days, and the lengths of table, report and piece.
-fn refused_at(
-    sound: bool,
-    meters: usize,
-    days: usize,
-    size: usize,
-    taken: usize,
-    room: usize,
-    n: usize,
-) -> u32
-    requires { ⌜ Sizes meters days × (taken ≤ byteLimit) ⌝ }
-    ensures { λ r. ⌜ ((reg : Bytes) → sound ≡ isSound reg → meters ≡ meterCount reg → days ≡ dayCount reg → r ≡ refusedAt (rulesOf reg) size taken room n) ⌝ }
-{
-    if !sound {
-        return BAD_REGISTRY;
-    }
-    if size < cell_count(meters, days) * Cell::WIDTH {
-        return SHORT_TABLE;
-    }
-    if room < 2 + n / 2 {
-        return SHORT_REPORT;
-    }
-    if BYTE_LIMIT - taken < n {
-        return TOO_MANY_BYTES;
-    }
-    DONE
-}
-
-// What a call returns.
-fn number_for(s: State, index: Index, size: usize, room: usize, n: usize) -> u32
-    requires { ⌜ Counts index ⌝ }
-    ensures { λ r. ⌜ ((reg : Bytes) → Indexes reg index → r ≡ numberFor s reg size room n) ⌝ }
-{
-    if is_overfull(s) {
-        return BAD_STATE;
-    }
-    refused_at(
-        index.sound,
-        index.count,
-        index.window.days as usize,
-        size,
-        s.taken,
-        room,
-        n,
-    )
 }
 
 // A batch that has read nothing.
@@ -350,114 +259,6 @@ fn answer(b: Batch) -> Fed
         number: b.number,
         count: b.from + b.count,
         state,
-    }
-}
-
-// The bytes that are held, if any, are the last line of the file.
-fn last_line(
-    unit: Unit,
-    lines: u32,
-    held: usize,
-    registry: &[u8],
-    meters: &[usize],
-    owners: &[usize],
-    known: Known,
-    kept: &[u8],
-    id: &mut [u8],
-    sender: &mut [u8],
-    words: &mut [u32],
-    table: &mut [u32],
-) -> Moved
-    requires { ⌜ Indexed (now registry) (now meters) (now owners) known × HasRoom known (now table) × Holds (now kept) held lines unit (now id) (now sender) (now words) 0 ⌝ }
-    ensures { λ r. ⌜ LastLine (now (registry .entry)) (scanOf (now (kept .entry)) held lines unit (now (id .entry)) (now (sender .entry)) (now (words .entry))) r (now (id .exit)) (now (sender .exit)) (now (words .exit)) (now (table .entry)) (now (table .exit)) ⌝ }
-{
-    if held == 0 {
-        return Moved {
-            unit,
-            lines,
-            held: 0,
-            at: 0,
-            first: Said::Nothing,
-            second: Said::Nothing,
-        };
-    }
-    let s = step(
-        unit,
-        lines + 1,
-        &kept[0..held],
-        false,
-        registry,
-        meters,
-        owners,
-        known,
-        id,
-        sender,
-        words,
-        table,
-    );
-    let next = s.unit;
-    let first = s.first;
-    let second = s.second;
-    Moved {
-        unit: next,
-        lines: lines + 1,
-        held: 0,
-        at: 0,
-        first,
-        second,
-    }
-}
-
-// The end of the file: its last line, if any, and the unit that is open. The state is then a fresh one.
-fn end_file(s: State, index: Index, registry: &[u8], table: &mut [u32]) -> Batch
-    requires { ⌜ Indexes (now registry) index × HasRoom (knownBy index) (now table) × HoldsIn s 0 ⌝ }
-    ensures { λ r. ⌜ Ended s (now (registry .entry)) (now (table .entry)) (now (table .exit)) r ⌝ }
-{
-    let unit = s.unit;
-    let kept = s.kept;
-    let mut id = s.id;
-    let mut sender = s.sender;
-    let mut words = s.words;
-    let mut out = [0; BATCH_WORDS];
-    let meters = index.meters;
-    let owners = index.owners;
-    let window = index.window;
-    let known = Known {
-        count: index.count,
-        window,
-        hint: 0,
-    };
-    let m = last_line(
-        unit,
-        s.lines,
-        s.held,
-        registry,
-        &meters,
-        &owners,
-        known,
-        &kept,
-        &mut id,
-        &mut sender,
-        &mut words,
-        table,
-    );
-    let next = m.unit;
-    let first = m.first;
-    let second = m.second;
-    let last = close(next, m.lines + 1, known, &words, table);
-    let mut count: usize = 0;
-    count = put(&mut out, count, first);
-    count = put(&mut out, count, second);
-    count = put(&mut out, count, last);
-    Batch {
-        going: false,
-        number: DONE,
-        state: fresh(),
-        at: 0,
-        from: 0,
-        count,
-        words: out,
-        index,
     }
 }
 

@@ -1,9 +1,9 @@
--- `loader::refused_at` meets its contract.
+-- `loader::refuse::refused_at` meets its contract.
 -- Assumes nothing.
 use borrow.Author.Needs.{needs}
 use Rattle.loader.proofs.Refusals.{refused-2, refused-3, refused-4, refused-5, refused-none}
-use Rattle.loader.proofs.refused_at.Statement.{statement}
-use Rattle.loader.proofs.refused_at.Tie as tie
+use Rattle.loader.proofs.refuse.refused_at.Statement.{statement}
+use Rattle.loader.proofs.refuse.refused_at.Tie as tie
 
 returns : tie.Need-returns
 returns c = λ reg s m d. refused-2 reg _ _ _ _ _ _ _ s m d (search needs)

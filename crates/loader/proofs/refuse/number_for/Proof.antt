@@ -1,10 +1,10 @@
--- `loader::number_for` meets its contract.
+-- `loader::refuse::number_for` meets its contract.
 -- Assumes nothing.
 use mathlib.Core.Path.{sym, ap}
 use borrow.Author.Needs.{needs}
 use Rattle.loader.proofs.Refusals.{number-full, number-else, not-full}
-use Rattle.loader.proofs.number_for.Statement.{statement}
-use Rattle.loader.proofs.number_for.Tie as tie
+use Rattle.loader.proofs.refuse.number_for.Statement.{statement}
+use Rattle.loader.proofs.refuse.number_for.Tie as tie
 
 is-overfull-requires : tie.Need-is-overfull-requires
 is-overfull-requires c κs = search needs

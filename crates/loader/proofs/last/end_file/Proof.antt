@@ -1,10 +1,10 @@
--- `loader::end_file` meets its contract.
+-- `loader::last::end_file` meets its contract.
 -- Assumes nothing.
 use borrow.Author.Needs.{needs}
 use Rattle.loader.proofs.Ending.{end-indexed, end-holds, file-ends}
-use Rattle.loader.proofs.end_file.Statement.{statement}
+use Rattle.loader.proofs.last.end_file.Statement.{statement}
 use Rattle.pieces.proofs.Moving.{room-same}
-use Rattle.loader.proofs.end_file.Tie as tie
+use Rattle.loader.proofs.last.end_file.Tie as tie
 
 slice-aggregate-last-line : tie.Need-slice-aggregate-last-line
 slice-aggregate-last-line c = search needs

@@ -1,11 +1,11 @@
--- `loader::details_in` meets its contract.
+-- `loader::refuse::details_in` meets its contract.
 -- Assumes nothing.
 use mathlib.Core.Path.{ap, sym, _∙_}
 use borrow.Author.Needs.{needs}
-use Rattle.loader.proofs.details_in.Statement.{statement}
+use Rattle.loader.proofs.refuse.details_in.Statement.{statement}
 use Rattle.plain.specs.Promise.{detailsIn}
 use Rattle.units.specs.Answer.{unitOf}
-use Rattle.loader.proofs.details_in.Tie as tie
+use Rattle.loader.proofs.refuse.details_in.Tie as tie
 
 enum-told : tie.Need-enum-told
 enum-told c = search needs

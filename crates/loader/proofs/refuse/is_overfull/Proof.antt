@@ -1,9 +1,9 @@
--- `loader::is_overfull` meets its contract.
+-- `loader::refuse::is_overfull` meets its contract.
 -- Assumes nothing.
 use borrow.Author.Needs.{needs}
 use Rattle.loader.proofs.Refusals.{overfull-says}
-use Rattle.loader.proofs.is_overfull.Statement.{statement}
-use Rattle.loader.proofs.is_overfull.Tie as tie
+use Rattle.loader.proofs.refuse.is_overfull.Statement.{statement}
+use Rattle.loader.proofs.refuse.is_overfull.Tie as tie
 
 details-in-requires : tie.Need-details-in-requires
 details-in-requires c κs = search needs

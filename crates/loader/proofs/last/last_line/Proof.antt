@@ -1,10 +1,10 @@
--- `loader::last_line` meets its contract.
+-- `loader::last::last_line` meets its contract.
 -- Assumes nothing.
 use mathlib.Core.Path.{refl}
 use borrow.Author.Needs.{needs}
 use Rattle.loader.proofs.Ending.{no-line, with-line}
-use Rattle.loader.proofs.last_line.Statement.{statement}
-use Rattle.loader.proofs.last_line.Tie as tie
+use Rattle.loader.proofs.last.last_line.Statement.{statement}
+use Rattle.loader.proofs.last.last_line.Tie as tie
 
 returns : tie.Need-returns
 returns c = no-line _ _ _ _ _ _ _ _ _ ((c .before .before .before .before .before .before .before .before .before .pre .2)) ((c .if1 .taken))
