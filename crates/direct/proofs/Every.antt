@@ -9,8 +9,7 @@ use borrow.Author.Tests.{ne-eqb}
 use Rattle.text.specs.Byte.{Bytes, isDigit, every}
 use Rattle.text.specs.Field.{comma}
 use Rattle.text.proofs.Truth.{apart, and-left, and-right, and-both}
-use Rattle.lines.specs.Line.{LF, CR}
-use Rattle.direct.specs.Direct.{notLF}
+use Rattle.lines.specs.Line.{LF, CR, notLF}
 use Rattle.direct.specs.Guess.{inValue}
 
 -- `inLine`: neither LF nor CR

@@ -2,12 +2,10 @@
 -- Assumes nothing.
 use mathlib.Core.Path.{_≡_}
 use mathlib.Core.List.{List, [], _∷_}
-use mathlib.Core.Bool.{Bool, true, not}
 use Prim.Native.Nat.{ℕ, _<_}
-use lib.Dec.{eqb}
 use lib.ListN.{length, take, getD}
-use Rattle.text.specs.Byte.{Bytes, every}
-use Rattle.lines.specs.Line.{LF, endedLine, kindOf}
+use Rattle.text.specs.Byte.{Bytes}
+use Rattle.lines.specs.Line.{LF, NoLF, endedLine, kindOf}
 use Rattle.lines.specs.Outcome.{passed}
 use Rattle.details.specs.Detail.{rowDetail}
 use Rattle.lines.specs.declared.line.Kind.the-variants.{Detail}
@@ -15,14 +13,11 @@ use Rattle.details.specs.declared.detail.Interval.{Interval}
 use Rattle.direct.specs.declared.Direct.{Direct}
 use Rattle.direct.specs.declared.Direct.the-variants.{Line, Other}
 
-abbrev pub notLF : ℕ → Bool
-notLF b = not (eqb b LF)
-
 -- the bytes begin with a line of n bytes and its LF, which is detail row k and gives these intervals
 pub record DetailLine (k : ℕ) (s : Bytes) (intervals : List Interval) (n : ℕ) : Type 0 where
   pub within : n < length s
   pub ends : getD s n 0 ≡ LF
-  pub clean : every notLF (take n s) ≡ true
+  pub clean : NoLF (take n s)
   pub kind : kindOf (take n s) ≡ Detail
   pub row : rowDetail k (endedLine (take n s)) ≡ passed intervals
 

@@ -1,11 +1,12 @@
 -- Lines: the CR that is dropped, long lines, openers and detail lines. Document 01, "Lines and data records".
 -- Assumes nothing.
+use mathlib.Core.Path.{_≡_}
 use mathlib.Core.List.{[], _∷_}
-use mathlib.Core.Bool.{Bool, true, false, cond}
+use mathlib.Core.Bool.{Bool, true, false, cond, not}
 use Prim.Native.Nat.{ℕ, _+_}
 use lib.Dec.{eqb, ltb}
 use lib.ListN.{length}
-use Rattle.text.specs.Byte.{Bytes, ascii, startsWith}
+use Rattle.text.specs.Byte.{Bytes, ascii, every, startsWith}
 use Rattle.lines.specs.declared.line.Kind.{Kind}
 use Rattle.lines.specs.declared.line.Kind.the-variants.{Empty, Opener, Detail, Other}
 
@@ -14,6 +15,13 @@ LF = 10
 
 abbrev pub CR : ℕ
 CR = 13
+
+-- bytes among which no LF is
+abbrev pub notLF : ℕ → Bool
+notLF b = not (eqb b LF)
+
+abbrev pub NoLF : Bytes → Type 0
+NoLF s = every notLF s ≡ true
 
 -- A line without its LF, and without the one CR directly before it; `cr` says whether that CR was there.
 pub record Line : Type 0 where

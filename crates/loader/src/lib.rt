@@ -6,7 +6,7 @@
 //
 // A call returns its number (0: done, else why it was refused), how many entries it wrote into the report from place 0, and the next state. A
 // refusal returns the state that came in, writes nothing and changes nothing. What a list of calls does is proofs/Demand3.antt; the claim is
-// plain/specs/Claim.antt.
+// plain/specs/Claim.antt. `words` has the same calls with a report of words, for programs.
 //
 // For whoever changes it: `feed` and `finish` only pass values and borrows on. The work is in `start`, `next_batch` and `last_batch`, over words and
 // not over entries; `put_batch` puts a batch's words into the report as entries.

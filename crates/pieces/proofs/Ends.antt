@@ -10,8 +10,8 @@ use lib.Seq.{take-add, drop-drop, drop-cons}
 use borrow.Author.Tests.{ne-eqb, not-false}
 use Rattle.text.specs.Byte.{Bytes, every}
 use Rattle.text.proofs.Class.{every-append}
-use Rattle.lines.specs.Line.{LF}
-use Rattle.pieces.specs.Ran.{isOther, between, NoneTo, LineEnd}
+use Rattle.lines.specs.Line.{LF, notLF}
+use Rattle.pieces.specs.Ran.{between, NoneTo, LineEnd}
 
 -- a part of the piece, in two
 pub between-add : (piece : Bytes) (at mid end : ℕ) → at ≤ mid → mid ≤ end → between at end piece ≡ between at mid piece ++ between mid end piece
@@ -28,16 +28,16 @@ none-here piece at h =
     record { behind = omega arith; within = h; clean = rw z }
 
 module _ (piece : Bytes) (at e : ℕ) (n : NoneTo piece at e) where
-  pub none-more : (end : ℕ) → e ≤ end → end ≤ length piece → every isOther (between e end piece) ≡ true → NoneTo piece at end
+  pub none-more : (end : ℕ) → e ≤ end → end ≤ length piece → every notLF (between e end piece) ≡ true → NoneTo piece at end
   none-more end h g clean =
       record {
         behind = omega (arith, n .behind);
         within = g;
-        clean = rw (between-add piece at e end (n .behind) h) (every-append isOther (between at e piece) (between e end piece) (n .clean) clean);
+        clean = rw (between-add piece at e end (n .behind) h) (every-append notLF (between at e piece) (between e end piece) (n .clean) clean);
       }
 
   -- a stride without one
-  pub stride-none : (end : ℕ) (r : Bool) → e ≤ end → end ≤ length piece → r ≡ every isOther (between e end piece) → not r ≡ false → NoneTo piece at end
+  pub stride-none : (end : ℕ) (r : Bool) → e ≤ end → end ≤ length piece → r ≡ every notLF (between e end piece) → not r ≡ false → NoneTo piece at end
   stride-none end r h g is t = none-more end h g (sym is ∙ not-false r t)
 
   -- one other byte

@@ -3,12 +3,10 @@
 -- Assumes nothing.
 use mathlib.Core.Path.{_≡_}
 use mathlib.Core.List.{List, [], _∷_, _++_}
-use mathlib.Core.Bool.{Bool, true, false, not, _||_}
 use Prim.Native.Nat.{ℕ, zero, suc, _+_, _-_, _*_, _<_, _≤_}
-use lib.Dec.{eqb}
 use lib.ListN.{length, take, drop, getD}
-use Rattle.text.specs.Byte.{Bytes, every}
-use Rattle.lines.specs.Line.{LF}
+use Rattle.text.specs.Byte.{Bytes}
+use Rattle.lines.specs.Line.{LF, NoLF}
 use Rattle.cell.specs.Layout.{Words, width}
 use Rattle.plain.specs.declared.Entry.{Entry}
 use Rattle.plain.specs.Rows.{Rules, rulesOf, headerRows, maxDetails}
@@ -23,13 +21,6 @@ use Rattle.units.specs.Answer.{unitOf, told, Tells}
 use Rattle.pieces.specs.declared.rows.RowsRead.{RowsRead}
 use Rattle.pieces.specs.declared.line.Moved.{Moved}
 use Rattle.pieces.specs.declared.run.Run.{Run}
-
--- no LF among the bytes
-abbrev pub isOther : ℕ → Bool
-isOther b = not (eqb b LF)
-
-abbrev pub NoLF : Bytes → Type 0
-NoLF s = every isOther s ≡ true
 
 -- the bytes of a piece from one place to another
 abbrev pub between : ℕ → ℕ → Bytes → Bytes

@@ -3,7 +3,8 @@ ghost use mathlib.Core.Path.{_≡_};
 ghost use Prim.Native.Nat.{_≤_};
 ghost use lib.ListN.{length};
 ghost use Rattle.text.specs.Byte.{every};
-ghost use Rattle.pieces.specs.Ran.{isOther, NoneTo, LineEnd};
+ghost use Rattle.lines.specs.Line.{notLF};
+ghost use Rattle.pieces.specs.Ran.{NoneTo, LineEnd};
 use lines::line::LF;
 
 // As many bytes as one test looks at.
@@ -11,7 +12,7 @@ const STRIDE: usize = 16;
 
 // Whether no byte is an LF. It looks at all of them, so that many are looked at at once.
 fn is_clean(s: &[u8]) -> bool
-    ensures { λ r. ⌜ r ≡ every isOther (now (s .entry)) ⌝ }
+    ensures { λ r. ⌜ r ≡ every notLF (now (s .entry)) ⌝ }
 {
     let mut ok = true;
     let mut i: usize = 0;

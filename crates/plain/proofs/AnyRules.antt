@@ -17,7 +17,7 @@ use Rattle.plain.specs.Loader.{Event, start, entriesOf, withLoad, loadsO
 use Rattle.plain.specs.Promise.{viewFrom, Made, Chain}
 use Rattle.plain.specs.Rows.{Rules}
 use Rattle.plain.specs.Table.{readsFor, Settled}
-use Rattle.plain.proofs.Bounds.{bounded}
+use Rattle.plain.proofs.Bounds.{Seams, bounded}
 use Rattle.plain.proofs.Calls.{fresh-kept, Follows, follow, follow-answers, follow-table}
 use Rattle.plain.proofs.File.{plain-loads, plain-entries, report-joined, only-file, Taken, only-taken, plain-good, alone-events, alone-entries, alone-table}
 use Rattle.plain.proofs.Good.{GoodEvents, good-wide, good-held}
@@ -27,7 +27,6 @@ use Rattle.plain.proofs.Lawful.{Lawful}
 use Rattle.plain.proofs.Loads.{mergeAll, all-cell, reads-append}
 use Rattle.plain.proofs.Pieces.{entries-append, loads-append}
 use Rattle.plain.proofs.Raise.{raiseEvents}
-use Rattle.plain.proofs.Seams.{Seams}
 
 module _ (R : Rules) where
   raise-loads : (n : ℕ) (es : List Event) → loadsOf (raiseEvents n es) ≡ loadsOf es

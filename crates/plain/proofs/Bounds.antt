@@ -1,5 +1,6 @@
--- The claim's form of the bounds on A, X and B is that of Seams.antt: A's last unit is a short record exactly where a unit takes rows behind A's
--- lines. Only the rows being taken are followed along the lines: line numbers and verdicts make no difference to them.
+-- The bounds on A, X and B in the form that the proof of isolation uses (`Seams`: behind A's lines no unit takes rows), and that this is the claim's
+-- own form: A's last unit is a short record exactly where a unit takes rows behind A's lines. Only the rows being taken are followed along
+-- the lines: line numbers and verdicts make no difference to them.
 -- Assumes nothing.
 use mathlib.Core.Path.{_≡_, refl, sym, _∙_}
 use mathlib.Core.List.{List, [], _∷_, _++_}
@@ -14,10 +15,22 @@ use Rattle.lines.specs.declared.line.Kind.{Kind}
 use Rattle.lines.specs.declared.line.Kind.the-variants.{Empty, Opener, Detail, Other}
 use Rattle.plain.specs.Rows.{Rows, Row, refusedWith, goesOn, complete, Rules}
 use Rattle.plain.specs.Loader.{OpenUnit, noUnit, takesRows, waits, skips, settle, Scan, start, stepKind, stepLine, byteTo, scanTo}
-use Rattle.plain.specs.Claim.{Whole, linesFrom, linesOf, lineKind, isFilled, isOpener, filled, hasOpener, fromLastOpener}
+use Rattle.plain.specs.Claim.{Whole, linesFrom, linesOf, lineKind, isFilled, isOpener, filled, firstKind, hasOpener, fromLastOpener}
 use Rattle.plain.specs.Claim.{LastUnit, noneYet, strayRun, shortRecord, allRows, refusedRecord, behindRecord, recordIs, unitIs, lastUnit}
 use Rattle.plain.specs.Claim.{AllowsA, empty, onlyEmpty, endsStray, endsWithAllRows, endsRefused, AllowsX, AllowsB}
-use Rattle.plain.proofs.Seams.{TakesRows, Seams}
+
+abbrev pub TakesRows : OpenUnit → Type 0
+TakesRows noUnit = ⊥
+TakesRows (takesRows first rows) = Unit {0}
+TakesRows (waits first last r) = ⊥
+TakesRows skips = ⊥
+
+pub record Seams (R : Rules) (a x b : Bytes) : Type 0 where
+  pub aWhole : Whole a
+  pub aUnit : ¬ TakesRows (scanTo R start a .unit)
+  pub xWhole : Whole x
+  pub xFirst : ¬ (firstKind (filled (linesOf x)) ≡ Detail)
+  pub bOpens : AllowsB b
 
 -- the rows that are being taken, if any
 data Taking : Type 0 where

@@ -15,7 +15,7 @@ use Rattle.plain.proofs.Pieces.{file-append}
 use Rattle.plain.proofs.Raise.{raiseEvents, file-raise}
 use Rattle.plain.proofs.Range.{Within, UnitWithin, within-append, close-within, scan-within, file-within, in-append, in-all, in-below, in-above}
 use Rattle.plain.proofs.Seam.{firstAll, first-seam, opens, wait-file}
-use Rattle.plain.proofs.Seams.{TakesRows, Seams}
+use Rattle.plain.proofs.Bounds.{TakesRows, Seams}
 
 module _ (R : Rules) where
   -- the unit as it is once it has been closed, if it waited

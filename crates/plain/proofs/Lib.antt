@@ -7,13 +7,12 @@ pub mod WholeRecord
 pub mod Pieces
 pub mod Lines
 pub mod LineScan
-pub mod Seams
 pub mod Seam
 pub mod Raise
 pub mod Invariant
 pub mod Range
-pub mod Isolation
 pub mod Bounds
+pub mod Isolation
 -- The table: loads, and which read wins.
 pub mod Loads
 pub mod Latest

@@ -8,17 +8,14 @@ use native.Mathlib.Omega.{arith}
 use lib.Dec.{eqb}
 use Rattle.text.specs.Byte.{Bytes, every}
 use Rattle.text.proofs.Truth.{and-left, and-right}
-use Rattle.lines.specs.Line.{LF, endedLine}
+use Rattle.lines.specs.Line.{LF, notLF, NoLF, endedLine}
 use Rattle.plain.specs.Rows.{Rules}
 use Rattle.plain.specs.Loader.{OpenUnit, Event, Scan, scan, stepLine, byteTo, byteEvents, scanTo, scanEvents}
 use Rattle.plain.proofs.Pieces.{scanTo-append, scanEvents-append}
 
-abbrev pub NoLF : Bytes → Type 0
-NoLF s = every (λ b. not (eqb b LF)) s ≡ true
-
 not-LF : (b : ℕ) (s : Bytes) → NoLF (b ∷ s) → eqb b LF ≡ false
 unfolding every
-not-LF b s h = go (eqb b LF) (and-left (not (eqb b LF)) (every (λ c. not (eqb c LF)) s) h)
+not-LF b s h = go (eqb b LF) (and-left (not (eqb b LF)) (every notLF s) h)
   where
     go : (c : Bool) → not c ≡ true → c ≡ false
     go true e = sym e
@@ -26,7 +23,7 @@ not-LF b s h = go (eqb b LF) (and-left (not (eqb b LF)) (every (λ c. not (eqb c
 
 rest-LF : (b : ℕ) (s : Bytes) → NoLF (b ∷ s) → NoLF s
 unfolding every
-rest-LF b s h = and-right (not (eqb b LF)) (every (λ c. not (eqb c LF)) s) h
+rest-LF b s h = and-right (not (eqb b LF)) (every notLF s) h
 
 module _ (R : Rules) (n : ℕ) (u : OpenUnit) where
   pub kept-scan-to : (k s : Bytes) → NoLF s → scanTo R (scan k n u) s ≡ scan (k ++ s) n u

@@ -2,6 +2,7 @@
 ghost use mathlib.Core.Path.{_≡_};
 ghost use Prim.Native.Nat.{_+_, _≤_};
 ghost use lib.ListN.{length};
+use cell::Cell;
 
 const PER_ENTRY: usize = 5;
 
@@ -109,12 +110,12 @@ fn wide(n: u32) -> u64
     n as u64
 }
 
-// The watt hours of a cell, added up.
+// The watt hours of a cell, added up. A cell has no more intervals than that, so the sum fits.
 fn total(values: &[u32]) -> u64 {
     let mut sum: u64 = 0;
     let mut i: usize = 0;
     while i < values.len() {
-        if i == 100 {
+        if i == Cell::INTERVALS {
             break;
         }
         sum += wide(values[i]);
@@ -130,20 +131,20 @@ fn word(n: u32) {
 
 // The line of cell number c, given by its words, if it holds a read.
 pub fn cell_line(c: u64, words: &[u32]) {
-    if words.len() < 107 {
+    if words.len() < Cell::WIDTH {
         return;
     }
-    if words[0] == 0 {
+    if words[Cell::COUNT] == 0 {
         return;
     }
     text(b"cell ");
     io::print_decimal(1, c);
     let mut i: usize = 0;
-    while i < 7 {
+    while i < Cell::VALUES {
         word(words[i]);
         i += 1;
     }
     text(b" ");
-    io::print_decimal(1, total(&words[7..107]));
+    io::print_decimal(1, total(&words[Cell::VALUES..Cell::WIDTH]));
     text(b"\n");
 }

@@ -7,13 +7,13 @@ use native.Mathlib.Omega.{arith}
 use lib.ListN.{length, drop}
 use borrow.Author.Needs.{needs}
 use Rattle.pieces.proofs.end.is_clean.Statement.{statement}
-use Rattle.pieces.specs.Ran.{isOther}
+use Rattle.lines.specs.Line.{notLF}
 use Rattle.text.proofs.Class.{every-step, every-end}
 use Rattle.text.specs.Byte.{every}
 use Rattle.pieces.proofs.end.is_clean.Tie as tie
 
 abbrev Inv-loop : tie.InvT-loop
-Inv-loop s ok₀ i₀ ok i = (i ≤ length s) × (every isOther s ≡ (ok && every isOther (drop i s)))
+Inv-loop s ok₀ i₀ ok i = (i ≤ length s) × (every notLF s ≡ (ok && every notLF (drop i s)))
 
 abbrev μ-loop : tie.MeasureT-loop
 μ-loop s ok₀ i₀ ok i = length s - i
