@@ -59,18 +59,18 @@ module _ (t : Words) (c : ℕ) (read : Words) (wins : Bool) (e : wins ≡ (holds
 cell-part : (t : Words) (d : ℕ) → take width (drop (d * width) t) ≡ drop (d * width) (take (d * width + width) t)
 cell-part t d = sym (rw (size d) at (drop-take (d * width) (d * width + width) t))
 
-module _ (t : Words) (c : ℕ) (r : Words) (h : c * width + width ≤ length t) (n : length r ≡ width) where
-  cell-length : length (cellAt t c) ≡ width
-  unfolding cellAt
-  cell-length = length-take-le width (drop (c * width) t) (simp length-drop (omega arith))
+pub cell-length : (t : Words) (c : ℕ) → c * width + width ≤ length t → length (cellAt t c) ≡ width
+unfolding cellAt
+cell-length t c h = length-take-le width (drop (c * width) t) (simp length-drop (omega arith))
 
+module _ (t : Words) (c : ℕ) (r : Words) (h : c * width + width ≤ length t) (n : length r ≡ width) where
   won-length : length (merge (cellAt t c) r) ≡ width
   unfolding merge
   won-length = go (holdsNone (cellAt t c) || isLater (stampIn r) (stampIn (cellAt t c)))
     where
       go : (x : Bool) → length (cond x r (cellAt t c)) ≡ width
       go true = n
-      go false = cell-length
+      go false = cell-length t c h
 
   before-length : length (take (c * width) t) ≡ c * width
   before-length = length-take-le (c * width) t (omega arith)

@@ -7,3 +7,4 @@ pub mod Frame
 pub mod Built
 pub mod Held
 pub mod Stamps
+pub mod SoundParts

@@ -42,6 +42,10 @@ readWords count s intervals = withIntervals (withStamp (begun count) s) 0 interv
 abbrev pub stampIn : Words → Stamp
 stampIn w = record { date = getD w dateAt 0; clock = getD w clockAt 0 }
 
+-- interval i of a read
+unfoldable pub intervalIn : Words → ℕ → Interval
+intervalIn w i = record { wh = getD w (valuesAt + i) 0; estimated = isEstimated w i }
+
 abbrev pub noInterval : Interval
 noInterval = record { wh = 0; estimated = false }
 

@@ -17,8 +17,9 @@ ghost use mathlib.Core.Path.{_≡_};
 ghost use Prim.Native.Nat.{_<_};
 ghost use lib.ListN.{length};
 ghost use Rattle.cell.specs.Layout.{width, maxIntervals};
-ghost use Rattle.cell.specs.Read.{cleared, begun, withStamp, withInterval, stampIn};
+ghost use Rattle.cell.specs.Read.{cleared, begun, withStamp, withInterval, intervalIn, stampIn};
 use crate::load::copy;
+use crate::mark::is_marked;
 use crate::mark::set_mark;
 use details::detail::Interval;
 use headers::time::Stamp;
@@ -104,5 +105,16 @@ pub fn put_interval(words: &mut [u32], i: usize, interval: Interval)
     words[Cell::VALUES + i] = interval.wh;
     if interval.estimated {
         set_mark(words, i);
+    }
+}
+
+// Interval i of a read.
+pub fn interval_in(words: &[u32], i: usize) -> Interval
+    requires { ⌜ (i < maxIntervals) × (length (now words) ≡ width) ⌝ }
+    ensures { λ r. ⌜ r ≡ intervalIn (now (words .entry)) i ⌝ }
+{
+    Interval {
+        wh: words[Cell::VALUES + i],
+        estimated: is_marked(words, i),
     }
 }

@@ -1,6 +1,6 @@
 -- The sound cell at an address: each answer, by the tests that lead to it.
 -- Assumes nothing.
-use mathlib.Core.Path.{_≡_, refl, sym, _∙_}
+use mathlib.Core.Path.{_≡_, sym, _∙_}
 use mathlib.Core.Bool.{Bool, true, false, cond, not, _&&_, and-false}
 use mathlib.Core.Logic.{⊎-elim}
 use Prim.Native.Nat.{ℕ, suc, _+_, _-_, _*_, _<_, _≤_}
@@ -14,15 +14,15 @@ use Rattle.calendar.specs.Intervals.{intervalsOn, intervalsOf}
 use Rattle.calendar.specs.Answer.{intervalsOfDay}
 use Rattle.calendar.proofs.Laws.{intervals-of-is, intervals-three}
 use Rattle.text.specs.Byte.{Bytes}
-use Rattle.lines.specs.Outcome.{Outcome, passed, refused, require, _>>_}
+use Rattle.lines.specs.Outcome.{Outcome, refused}
 use Rattle.registry.specs.Registry.{isSound as isSoundRegistry, metersOf, windowIs}
 use Rattle.cell.specs.Layout.{Words, width, maxIntervals}
 use Rattle.cell.specs.Load.{cellAt, holdsNone}
 use Rattle.cell.specs.Sound.{isSound}
 use Rattle.cells.specs.Refusal.{badRegistry, shortTable, noCell, emptyCell, unsoundCell}
 use Rattle.cells.specs.Number.{channels, cellCount, cellNumber}
-use Rattle.cells.specs.Address.{meterCount, tableSize, isAddress, cellOf, Among}
-use Rattle.cells.specs.Sound.{dayIntervals, soundWords, soundCell, CellIs}
+use Rattle.cells.specs.Address.{meterCount, tableSize, isAddress, Among}
+use Rattle.cells.specs.Sound.{soundWords, soundCell, CellIs}
 use Rattle.cells.specs.declared.CellFound.{CellFound}
 use Rattle.cells.specs.declared.CellFound.the-variants.{At, Refused}
 
@@ -111,7 +111,7 @@ cell-within k cells length h room =
     let b : suc k * width ≡ k * width + width = suc-mul k width in
     omega arith
 
-day-few : (date : ℕ) → intervalsOn date ≤ maxIntervals
+pub day-few : (date : ℕ) → intervalsOn date ≤ maxIntervals
 day-few date = ⊎-elim (λ x. omega arith) (λ y. ⊎-elim (λ x. omega arith) (λ x. omega arith) y) (intervals-three date)
 
 pub intervals-few : (r n : ℕ) → r ≡ intervalsOfDay n → r ≤ maxIntervals
@@ -121,31 +121,3 @@ intervals-few r n e = rw e (few (leb n lastDay) (intervalsOf n) (day-few (dateOf
     few : (t : Bool) (m : ℕ) → m ≤ maxIntervals → cond t m 0 ≤ maxIntervals
     few true m h = h
     few false m h = omega arith
-
--- WHAT A CELL THAT IS FOUND IS: sound for a number of intervals that a cell has room for
-not-refused : (w : Words) (v : ℕ) → passed w ≡ refused v → ⊥
-not-refused w v e = let z : _≡_ {A = ℕ} 0 1 = cc in omega arith
-
-two-passed : (a b : Bool) (w u : Words) → passed w ≡ (require (not a) emptyCell >> (require b unsoundCell >> passed u)) → (b ≡ true) × (w ≡ u)
-two-passed true b w u e = absurd (not-refused w emptyCell e)
-two-passed false true w u e = (refl, cc)
-two-passed false false w u e = absurd (not-refused w unsoundCell e)
-
-three-passed : (a b c : Bool) (w : Words) (o : Outcome Words) → passed w ≡ (require a badRegistry >> (require b shortTable >> (require c noCell >> o))) → passed w ≡ o
-three-passed true true true w o e = e
-three-passed true true false w o e = absurd (not-refused w noCell e)
-three-passed true false c w o e = absurd (not-refused w shortTable e)
-three-passed false b c w o e = absurd (not-refused w badRegistry e)
-
--- for n intervals
-pub record SoundFor (n : ℕ) (w : Words) : Type 0 where
-  pub few : n ≤ maxIntervals
-  pub sound : isSound n w ≡ true
-
-pub cell-sound : (reg : Bytes) (table : Words) (m c d : ℕ) (w : Words) → passed w ≡ soundCell reg table m c d → SoundFor (dayIntervals reg d) w
-unfolding soundCell soundWords intervalsOf
-cell-sound reg table m c d w e =
-    let u : Words = cellAt table (cellOf reg m c d) in
-    let x : passed w ≡ soundWords (dayIntervals reg d) u = three-passed (isSoundRegistry reg) (not (ltb (length table) (tableSize reg))) (isAddress reg m c d) w (soundWords (dayIntervals reg d) u) e in
-    let y : (isSound (dayIntervals reg d) u ≡ true) × (w ≡ u) = two-passed (holdsNone u) (isSound (dayIntervals reg d) u) w u x in
-    record { few = day-few (dateOf (windowIs reg .first + d)); sound = rw (y .1) (y .0) }

@@ -10,13 +10,14 @@ ghost use Rattle.registry.specs.Entry.{maxDays};
 ghost use Rattle.cell.specs.Layout.{width, maxIntervals};
 ghost use Rattle.cells.specs.Number.{channels, channelNumber, cellCount, cellNumber};
 ghost use Rattle.cells.specs.Address.{Sizes, Among};
-ghost use Rattle.cells.specs.Sound.{soundWords, CellIs, soundCell, cellSays};
+ghost use Rattle.cells.specs.Sound.{soundWords, Knows, CellIs, soundCell};
 use calendar::intervals_of;
 use cell::Cell;
 use cell::load::holds_none;
 use cell::sound::is_sound;
 use headers::one::Channel;
 use registry::Index;
+use registry::entry::Window;
 
 pub mod refusal;
 
@@ -76,16 +77,24 @@ fn sound_words(table: &[u32], start: usize, n: u32) -> CellFound
     CellFound::At(start)
 }
 
-// The sound cell of a meter, a channel and a window day, each from 0.
-pub fn sound_cell(registry: &[u8], table: &[u32], m: usize, c: usize, d: usize) -> CellFound
+// The sound cell of a meter, a channel and a window day, each from 0, by what an index tells of the registry.
+pub fn known_cell(
+    registry: &[u8],
+    sound: bool,
+    meters: usize,
+    window: Window,
+    table: &[u32],
+    m: usize,
+    c: usize,
+    d: usize,
+) -> CellFound
+    requires { ⌜ Knows (now registry) sound meters window ⌝ }
     ensures { λ r. ⌜ CellIs r (now (table .entry)) (soundCell (now (registry .entry)) (now (table .entry)) m c d) ⌝ }
 {
-    let index = Index::of(registry);
-    if !index.sound {
+    if !sound {
         return CellFound::Refused(BAD_REGISTRY);
     }
-    let meters = index.count;
-    let days = index.window.days as usize;
+    let days = window.days as usize;
     if table.len() < cell_count(meters, days) * Cell::WIDTH {
         return CellFound::Refused(SHORT_TABLE);
     }
@@ -99,5 +108,22 @@ pub fn sound_cell(registry: &[u8], table: &[u32], m: usize, c: usize, d: usize) 
         return CellFound::Refused(NO_CELL);
     }
     let start = cell_number(meters, days, m, c, d) * Cell::WIDTH;
-    sound_words(table, start, intervals_of(index.window.first + d as u32))
+    sound_words(table, start, intervals_of(window.first + d as u32))
+}
+
+// The sound cell of a meter, a channel and a window day.
+pub fn sound_cell(registry: &[u8], table: &[u32], m: usize, c: usize, d: usize) -> CellFound
+    ensures { λ r. ⌜ CellIs r (now (table .entry)) (soundCell (now (registry .entry)) (now (table .entry)) m c d) ⌝ }
+{
+    let index = Index::of(registry);
+    known_cell(
+        registry,
+        index.sound,
+        index.count,
+        index.window,
+        table,
+        m,
+        c,
+        d,
+    )
 }

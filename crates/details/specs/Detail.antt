@@ -12,6 +12,10 @@ use Rattle.lines.specs.Verdict.{misfit, wrongStatus}
 use Rattle.details.specs.Value.{valueOf}
 use Rattle.details.specs.declared.detail.Interval.{Interval}
 
+-- the intervals of a detail row
+abbrev pub perRow : ℕ
+perRow = 4
+
 -- `10000000` upward: row k, from 0
 abbrev pub detailCode : ℕ → Bytes
 detailCode k = detailBytes ++ digitsOf 2 k

@@ -25,9 +25,13 @@ unfoldable pub isNegative : Bytes → Bool
 isNegative [] = false
 isNegative (b ∷ s) = eqb b (code "-")
 
--- kWh times 1,000: `whole` before the point, `part` behind it
+-- a value is kept in watt hours: kWh times 1,000
+abbrev pub perKwh : ℕ
+perKwh = 1000
+
+-- `whole` before the point, `part` behind it
 unfoldable pub wattHours : Bytes → Bytes → ℕ
-wattHours whole part = number whole * 1000 + number part * 10 ^ (partDigits - length part)
+wattHours whole part = number whole * perKwh + number part * 10 ^ (partDigits - length part)
 
 -- only digits and one point: 20 if 4 or more digits stand after it
 unfoldable pub withPoint : Bytes → Bytes → Outcome ℕ

@@ -15,6 +15,9 @@ use text::bytes::is_empty;
 use text::fields::after;
 use text::fields::field;
 
+// The intervals of a row.
+pub const PER_ROW: u32 = 4;
+
 // Watt hours, and whether they are estimated.
 pub struct Interval {
     pub wh: u32,

@@ -17,8 +17,11 @@ use Rattle.headers.specs.declared.time.Stamp.{Stamp}
 abbrev pub dateSize : ℕ
 dateSize = 8
 
+abbrev pub clockSize : ℕ
+clockSize = 6
+
 abbrev pub timeSize : ℕ
-timeSize = 14
+timeSize = dateSize + clockSize
 
 abbrev pub dateText : Bytes → ℕ
 dateText f = number (take dateSize f)

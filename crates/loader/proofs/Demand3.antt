@@ -179,8 +179,12 @@ chained reg s t (c ∷ cs) h =
     (subst (λ r. Promise (rulesOf r) (viewOf (stateIn c)) (tableIn c) (toldOf c)) (h .1) (promised c (h .0)))) in
     (p, rw (after-told c, table-told c) (chained reg (stateOut c) (tableOut c) cs (h .4)))
 
+-- from a state that fresh gave
+pub fresh-chained : (reg : Bytes) (t : Words) (b : FreshCall) → Begun b → (cs : List RealCall) → Linked reg (b .result) t cs
+    → Chain (rulesOf reg) (viewFrom fresh) t (map toldOf cs)
+fresh-chained reg t b begun cs h = subst (λ v. Chain (rulesOf reg) v t (map toldOf cs)) begun (chained reg (b .result) t cs h)
+
 -- DEMAND 3: for every registry, every table, every state that fresh gave, and every list of calls
 pub demand3-of-calls : (reg : Bytes) (t : Words) (b : FreshCall) → Begun b → (cs : List RealCall) → Linked reg (b .result) t cs
     → Demand3 (rulesOf reg) t (map toldOf cs)
-demand3-of-calls reg t b begun cs h =
-    demand3 reg t (map toldOf cs) (subst (λ v. Chain (rulesOf reg) v t (map toldOf cs)) begun (chained reg (b .result) t cs h))
+demand3-of-calls reg t b begun cs h = demand3 reg t (map toldOf cs) (fresh-chained reg t b begun cs h)

@@ -3,10 +3,11 @@
 use mathlib.Core.Path.{_≡_, refl, sym, ap, _∙_}
 use mathlib.Core.List.{[], _∷_, _++_}
 use mathlib.Core.Bool.{Bool, true, false}
-use Prim.Native.Nat.{ℕ, zero, suc, _-_, _≤_}
+use Prim.Native.Nat.{ℕ, zero, suc, _-_, _<_, _≤_}
 use native.Mathlib.Omega.{arith}
-use lib.ListN.{length, take, drop, replicate}
-use borrow.Author.Tests.{eqb-true}
+use lib.ListN.{length, getD, take, drop, replicate, take-append-drop, length-drop}
+use lib.Seq.{take-suc}
+use borrow.Author.Tests.{eqb-true, ne-eqb}
 use Rattle.text.specs.Byte.{Bytes, isDigit, isAlnum, every}
 use Rattle.text.proofs.Truth.{apart, and-left, and-right}
 use Rattle.padded.specs.Padding.{space, isSpace, pad, unpad, unpadTo}
@@ -109,3 +110,50 @@ spaces-only (suc n) = spaces-only n
 pub unpad-pad : (n : ℕ) (s : Bytes) → every isAlnum s ≡ true → unpad (pad n s) ≡ s
 unfolding pad
 unpad-pad n s h = spaces-unpad s (replicate (n - length s) space) (spaces-only (n - length s)) ∙ alnum-unpad s h
+
+-- ---- PADDED AGAIN, A TEXT is what it was.
+
+spaces-are : (s : Bytes) → every isSpace s ≡ true → s ≡ replicate (length s) space
+unfolding every
+spaces-are [] h = refl
+spaces-are (b ∷ s) h =
+    let e : b ≡ space = eqb-true b space (and-left (isSpace b) (every isSpace s) h) in
+    rw e (ap (λ (t : Bytes). space ∷ t) (spaces-are s (and-right (isSpace b) (every isSpace s) h)))
+
+pub pad-unpad : (n : ℕ) (s : Bytes) → length s ≡ n → pad n (unpad s) ≡ s
+unfolding pad
+pad-unpad n s e =
+    let k : ℕ = length (unpad s) in
+    let rest : length (drop k s) ≡ n - k = length-drop k s ∙ ap (λ (m : ℕ). m - k) e in
+    let spaces : drop k s ≡ replicate (n - k) space = spaces-are (drop k s) (unpad-drop s) ∙ ap (λ (m : ℕ). replicate m space) rest in
+    sym (sym (take-append-drop k s) ∙ rw (unpad-take s, spaces))
+
+-- ---- THE SPACES ARE LEFT OUT ONE BY ONE, from the end.
+
+last-stays : (s : Bytes) (b : ℕ) → isSpace b ≡ false → unpad (s ++ b ∷ []) ≡ s ++ b ∷ []
+unfolding unpad
+last-stays [] b h = rw h
+last-stays (c ∷ s) b h = ap (unpadTo c) (last-stays s b h) ∙ not-empty s
+  where
+    not-empty : (t : Bytes) → unpadTo c (t ++ b ∷ []) ≡ c ∷ (t ++ b ∷ [])
+    not-empty [] = refl
+    not-empty (d ∷ t) = refl
+
+module _ (s : Bytes) (end : ℕ) (some : 0 < end) (within : end ≤ length s) (inv : unpad (take end s) ≡ unpad s) where
+  last-byte : take end s ≡ take (end - 1) s ++ getD s (end - 1) 0 ∷ []
+  last-byte =
+      let e : suc (end - 1) ≡ end = omega arith in
+      rw e at (take-suc s (end - 1) 0 (omega arith))
+
+  pub unpad-again : getD s (end - 1) 0 ≡ space → unpad (take (end - 1) s) ≡ unpad s
+  unfolding every
+  unpad-again h =
+      sym (spaces-unpad (take (end - 1) s) (getD s (end - 1) 0 ∷ []) (rw h)) ∙ ap unpad (sym last-byte) ∙ inv
+
+  pub unpad-found : (getD s (end - 1) 0 ≡ space → ⊥) → take end s ≡ unpad s
+  unpad-found h =
+      last-byte ∙ sym (last-stays (take (end - 1) s) (getD s (end - 1) 0) (ne-eqb (getD s (end - 1) 0) space h)) ∙ ap unpad (sym last-byte) ∙ inv
+
+pub unpad-none : (s : Bytes) (end : ℕ) → end ≤ 0 → unpad (take end s) ≡ unpad s → take end s ≡ unpad s
+unfolding unpad
+unpad-none s end h inv = let z : end ≡ 0 = omega arith in rw z (rw z at inv)

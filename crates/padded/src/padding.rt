@@ -4,7 +4,7 @@ ghost use Prim.Native.Nat.{_<_, _≤_};
 ghost use lib.ListN.{length, getD};
 ghost use Rattle.text.specs.Byte.{isDigit, every};
 ghost use Rattle.text.specs.Identifier.{esiIdSize, dunsSize};
-ghost use Rattle.padded.specs.Padding.{space, isSpace, pad, isPaddedEsiId, isPaddedDuns};
+ghost use Rattle.padded.specs.Padding.{space, isSpace, pad, unpad, isPaddedEsiId, isPaddedDuns};
 ghost use Rattle.padded.specs.Private.{isPadded, spacesLast};
 use text::bytes::is_alnum;
 use text::bytes::is_digit;
@@ -102,4 +102,18 @@ pub fn put_padded(to: &mut [u8], text: &[u8])
         to[i] = byte_at(text, i);
         i += 1;
     }
+}
+
+// A text without the spaces at its end, as that part of the padded one.
+pub fn unpadded(s: &[u8]) -> &[u8]
+    ensures { λ r. ⌜ now r ≡ unpad (now (s .entry)) ⌝ }
+{
+    let mut end = s.len();
+    while 0 < end {
+        if s[end - 1] != SPACE {
+            return &s[0..end];
+        }
+        end -= 1;
+    }
+    &s[0..end]
 }

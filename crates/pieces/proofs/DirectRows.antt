@@ -12,10 +12,11 @@ use borrow.Author.Tests.{ne-eqb, lt-ltb}
 use Rattle.text.specs.Byte.{Bytes, startsWith}
 use Rattle.lines.specs.Line.{LF, endedLine, openerBytes, detailBytes, dropCR, kindOf}
 use Rattle.lines.specs.declared.line.Kind.the-variants.{Opener, Detail, Other}
+use Rattle.details.specs.Detail.{perRow}
 use Rattle.details.specs.declared.detail.Interval.{Interval}
 use Rattle.cell.specs.Layout.{Words, width}
 use Rattle.cell.specs.Read.{withIntervals}
-use Rattle.plain.specs.Rows.{Rows, headerRows, perRow, maxDetails, withRow, afterDetail, detailRow, nextRow, rulesOf}
+use Rattle.plain.specs.Rows.{Rows, headerRows, maxDetails, withRow, afterDetail, detailRow, nextRow, rulesOf}
 use Rattle.plain.specs.Loader.{takesRows, settle, scan, stepKind, stepLine, scanTo, scanEvents}
 use Rattle.plain.specs.Call.{byteLimit}
 use Rattle.plain.proofs.Seam.{starts-split}

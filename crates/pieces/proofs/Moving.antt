@@ -12,10 +12,11 @@ use borrow.Author.Tests.{ltb-true, ltb-false, leb-true, leb-false}
 use Rattle.text.specs.Byte.{Bytes}
 use Rattle.text.proofs.Truth.{and-left, and-right}
 use Rattle.lines.specs.Line.{LF, endedLine}
+use Rattle.details.specs.Detail.{perRow}
 use Rattle.details.specs.declared.detail.Interval.{Interval}
 use Rattle.cell.specs.Layout.{Words, width}
 use Rattle.cell.specs.Read.{withIntervals}
-use Rattle.plain.specs.Rows.{rulesOf, headerRows, perRow, maxDetails, withRow, afterDetail}
+use Rattle.plain.specs.Rows.{rulesOf, headerRows, maxDetails, withRow, afterDetail}
 use Rattle.plain.specs.Table.{loadAll}
 use Rattle.plain.specs.Loader.{takesRows, settle, Scan, scan, stepLine, scanTo, scanEvents, entriesOf, loadsOf}
 use Rattle.plain.specs.Promise.{cutScan, detailsIn}

@@ -15,12 +15,12 @@ use Rattle.headers.specs.Two.{rowTwo}
 use Rattle.headers.specs.Three.{rowThree}
 use Rattle.headers.specs.Four.{rowFour}
 use Rattle.headers.specs.Thirty.{rowThirty}
-use Rattle.details.specs.Detail.{rowDetail}
+use Rattle.details.specs.Detail.{perRow, rowDetail}
 use Rattle.cell.specs.Layout.{Words}
 use Rattle.checks.specs.Check.{judge}
 use Rattle.checks.specs.declared.Judgement.{Judgement}
 use Rattle.checks.specs.declared.Judgement.the-variants.{Passed, Refused}
-use Rattle.plain.specs.Rows.{Load, Rows, Row, refusedWith, goesOn, complete, headerRows, perRow, maxDetails, detailsOf, orElse, begins, firstRow}
+use Rattle.plain.specs.Rows.{Load, Rows, Row, refusedWith, goesOn, complete, headerRows, maxDetails, detailsOf, orElse, begins, firstRow}
 use Rattle.plain.specs.Rows.{withRow, byJudgement, checked, afterDetail, detailRow, dueRow, nextRow, rulesOf}
 use Rattle.plain.specs.Loader.{OpenUnit, noUnit, takesRows, waits, skips, Scan, scanTo}
 use Rattle.plain.specs.Promise.{detailsIn}

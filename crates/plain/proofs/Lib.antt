@@ -1,8 +1,9 @@
 -- Laws of the plain loader; Demand3 has the theorems.
--- What demand 3 asks of the rules of one registry, and that they keep it; a record whole.
+-- What demand 3 asks of the rules of one registry, and that they keep it; a record whole, and the row that ends it.
 pub mod Lawful
 pub mod Rules
 pub mod WholeRecord
+pub mod LastRow
 -- One file: pieces, lines, the two seams, lines further down, and where an event's unit began.
 pub mod Pieces
 pub mod Lines

@@ -1,17 +1,16 @@
 -- A scan a line at a time: over bytes with no LF in them they are kept, and an LF behind them has the line read.
 -- Assumes nothing.
-use mathlib.Core.Bool.{Bool, true, false, not, _&&_}
+use mathlib.Core.Bool.{Bool, true, false, not}
 use mathlib.Core.List.{[], _∷_, _++_, append-assoc, append-nil}
 use mathlib.Core.Path.{_≡_, refl, sym, ap, _∙_}
 use Prim.Native.Nat.{ℕ, suc}
-use native.Mathlib.Omega.{arith}
 use lib.Dec.{eqb}
 use Rattle.text.specs.Byte.{Bytes, every}
 use Rattle.text.proofs.Truth.{and-left, and-right}
 use Rattle.lines.specs.Line.{LF, notLF, NoLF, endedLine}
 use Rattle.plain.specs.Rows.{Rules}
-use Rattle.plain.specs.Loader.{OpenUnit, Event, Scan, scan, stepLine, byteTo, byteEvents, scanTo, scanEvents}
-use Rattle.plain.proofs.Pieces.{scanTo-append, scanEvents-append}
+use Rattle.plain.specs.Loader.{OpenUnit, scan, stepLine, byteTo, byteEvents, scanTo, scanEvents, fileFrom}
+use Rattle.plain.proofs.Pieces.{scanTo-append, scanEvents-append, file-append}
 
 not-LF : (b : ℕ) (s : Bytes) → NoLF (b ∷ s) → eqb b LF ≡ false
 unfolding every
@@ -48,3 +47,8 @@ module _ (R : Rules) (n : ℕ) (u : OpenUnit) where
     line-scan-events =
         scanEvents-append R (scan k n u) s (LF ∷ [])
         ∙ rw (kept-scan-events k s h, kept-scan-to k s h) (append-nil (stepLine R (suc n) (endedLine (k ++ s)) u .events))
+
+    -- the file behind it goes on from there
+    pub line-file : (rest : Bytes) → fileFrom R (scan k n u) (s ++ (LF ∷ []) ++ rest)
+        ≡ stepLine R (suc n) (endedLine (k ++ s)) u .events ++ fileFrom R (scan [] (suc n) (stepLine R (suc n) (endedLine (k ++ s)) u .unit)) rest
+    line-file rest = file-append R (scan k n u) (s ++ (LF ∷ [])) rest ∙ rw (line-scan-events, line-scan-to)

@@ -28,7 +28,7 @@ use Rattle.headers.specs.Thirty.{rowThirty}
 use Rattle.headers.specs.declared.one.Channel.{Channel}
 use Rattle.headers.specs.declared.one.Channel.the-variants.{Load, Generation}
 use Rattle.headers.specs.declared.time.Stamp.{Stamp}
-use Rattle.details.specs.Detail.{rowDetail}
+use Rattle.details.specs.Detail.{perRow, rowDetail}
 use Rattle.details.specs.declared.detail.Interval.{Interval}
 use Rattle.registry.specs.Registry.{metersOf, windowIs}
 use Rattle.registry.specs.Index.{meterAt, findMeter}
@@ -46,7 +46,7 @@ use Rattle.checks.specs.declared.Judgement.the-variants.{Passed, Refused}
 use Rattle.cells.specs.Number.{channels, channelNumber}
 use Rattle.cells.specs.Address.{meterCount, dayCount, cellsOf, isAddress, cellOf}
 use Rattle.cells.proofs.Numbers.{number-below}
-use Rattle.plain.specs.Rows.{Rows, Row, refusedWith, goesOn, headerRows, perRow, maxDetails, orElse, begins, firstRow, withRow}
+use Rattle.plain.specs.Rows.{Rows, Row, refusedWith, goesOn, headerRows, maxDetails, orElse, begins, firstRow, withRow}
 use Rattle.plain.specs.Rows.{byJudgement, checked, afterDetail, detailRow, dueRow, nextRow, rulesOf}
 use Rattle.plain.proofs.Lawful.{GoodRows, GoodRow, Lawful}
 use Rattle.lines.proofs.Passing.{then-passed, require-passed}

@@ -19,14 +19,14 @@ use Rattle.headers.specs.Two.{rowTwo}
 use Rattle.headers.specs.Three.{rowThree}
 use Rattle.headers.specs.Four.{rowFour}
 use Rattle.headers.specs.Thirty.{rowThirty}
-use Rattle.details.specs.Detail.{detailCode, fourOf, detailOf, rowDetail}
+use Rattle.details.specs.Detail.{perRow, detailCode, fourOf, detailOf, rowDetail}
 use Rattle.details.specs.declared.detail.Interval.{Interval}
 use Rattle.padded.specs.Padding.{pad}
 use Rattle.registry.specs.Entry.{ownerSize}
 use Rattle.cell.specs.Layout.{Words}
 use Rattle.cell.specs.Read.{begun, withStamp, withIntervals, readWords}
 use Rattle.cell.proofs.Built.{put-append}
-use Rattle.plain.specs.Rows.{Rows, goesOn, headerRows, perRow, maxDetails, begins, firstRow, withRow}
+use Rattle.plain.specs.Rows.{Rows, goesOn, headerRows, maxDetails, begins, firstRow, withRow}
 use Rattle.plain.specs.Rows.{checked, afterDetail, detailRow, dueRow, nextRow, rulesOf}
 use Rattle.plain.specs.Record.{RecordLines, RecordSays, detailRows, recordSays, readOf, rowsOf, linesBehind, rowsFrom}
 use Rattle.lines.proofs.Passing.{bind-passed, then-passed}

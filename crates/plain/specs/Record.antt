@@ -14,13 +14,13 @@ use Rattle.headers.specs.Three.{rowThree}
 use Rattle.headers.specs.Four.{rowFour}
 use Rattle.headers.specs.Thirty.{rowThirty}
 use Rattle.headers.specs.declared.time.Stamp.{Stamp}
-use Rattle.details.specs.Detail.{rowDetail}
+use Rattle.details.specs.Detail.{perRow, rowDetail}
 use Rattle.details.specs.declared.detail.Interval.{Interval}
 use Rattle.padded.specs.Padding.{pad}
 use Rattle.registry.specs.Entry.{ownerSize}
 use Rattle.cell.specs.Layout.{Words}
 use Rattle.cell.specs.Read.{readWords}
-use Rattle.plain.specs.Rows.{Rows, Row, refusedWith, goesOn, complete, Rules, headerRows, perRow}
+use Rattle.plain.specs.Rows.{Rows, Row, refusedWith, goesOn, complete, Rules, headerRows}
 
 -- the lines of a record: the header rows, then the detail rows
 pub record RecordLines : Type 0 where

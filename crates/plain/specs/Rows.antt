@@ -17,7 +17,7 @@ use Rattle.headers.specs.Three.{rowThree}
 use Rattle.headers.specs.Four.{rowFour}
 use Rattle.headers.specs.Thirty.{rowThirty}
 use Rattle.headers.specs.declared.one.Channel.{Channel}
-use Rattle.details.specs.Detail.{rowDetail}
+use Rattle.details.specs.Detail.{perRow, rowDetail}
 use Rattle.padded.specs.Padding.{pad}
 use Rattle.registry.specs.Entry.{ownerSize}
 use Rattle.registry.specs.Registry.{isSound}
@@ -70,9 +70,6 @@ pub record Rules : Type 0 where
 -- rows two, three, four and thirty
 abbrev pub headerRows : ℕ
 headerRows = 4
-
-abbrev pub perRow : ℕ
-perRow = 4
 
 -- no day has more detail rows
 abbrev pub maxDetails : ℕ

@@ -38,7 +38,7 @@ use Rattle.headers.specs.declared.thirty.Thirty.{Thirty}
 use Rattle.headers.specs.declared.thirty.Thirty.the-variants.{Passed as ThirtyPassed, Refused as ThirtyRefused}
 use Rattle.headers.proofs.Passed.{one-passed, thirty-passed as sender-duns}
 use Rattle.details.specs.Answer.{detailSays}
-use Rattle.details.specs.Detail.{rowDetail}
+use Rattle.details.specs.Detail.{perRow, rowDetail}
 use Rattle.details.specs.declared.detail.Interval.{Interval}
 use Rattle.details.specs.declared.detail.Detail.{Detail}
 use Rattle.details.specs.declared.detail.Detail.the-variants.{Passed as DetailPassed, Refused as DetailRefused}
@@ -50,7 +50,7 @@ use Rattle.cell.specs.Read.{cleared, begun, withStamp, withInterval, withInterv
 use Rattle.checks.specs.Check.{judge}
 use Rattle.checks.specs.declared.Judgement.{Judgement}
 use Rattle.checks.specs.declared.Judgement.the-variants.{Passed as JudgedFor, Refused as JudgedNot}
-use Rattle.plain.specs.Rows.{Rows, Row, refusedWith, goesOn, complete, headerRows, perRow, maxDetails, orElse, begins, firstRow, withRow}
+use Rattle.plain.specs.Rows.{Rows, Row, refusedWith, goesOn, complete, headerRows, maxDetails, orElse, begins, firstRow, withRow}
 use Rattle.plain.specs.Rows.{twoRow, threeRow, fourRow, thirtyRow, byJudgement, checked, afterDetail, detailRow, dueRow, nextRow}
 use Rattle.records.specs.Answer.{rowsOf, recordOf, rowSays, oneMore, Sized}
 use Rattle.records.specs.declared.Progress.{Progress}

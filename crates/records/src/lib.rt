@@ -12,10 +12,11 @@ ghost use Rattle.calendar.specs.Date.{isDate};
 ghost use Rattle.text.specs.Byte.{Bytes};
 ghost use Rattle.text.specs.Identifier.{esiIdSize};
 ghost use Rattle.lines.specs.Answer.{lineOf, textAt, checkedSays};
+ghost use Rattle.details.specs.Detail.{perRow};
 ghost use Rattle.registry.specs.Entry.{ownerSize};
 ghost use Rattle.cell.specs.Layout.{Words, width};
 ghost use Rattle.cell.specs.Read.{withIntervals};
-ghost use Rattle.plain.specs.Rows.{headerRows, maxDetails, perRow, orElse, goesOn, begins, firstRow, withRow, fourRow, thirtyRow, checked, afterDetail, nextRow};
+ghost use Rattle.plain.specs.Rows.{headerRows, maxDetails, orElse, goesOn, begins, firstRow, withRow, fourRow, thirtyRow, checked, afterDetail, nextRow};
 ghost use Rattle.records.specs.Answer.{rowsOf, rowSays, oneMore, Sized, Few, Indexed};
 ghost use Rattle.records.specs.declared.RowRead.the-variants.{GoesOn};
 use calendar::intervals_on;
@@ -26,6 +27,7 @@ use checks::Judgement;
 use checks::judge;
 use details::detail::Detail;
 use details::detail::Interval;
+use details::detail::PER_ROW;
 use details::detail::read_detail;
 use headers::four::Four;
 use headers::four::read_four;
@@ -46,8 +48,6 @@ use text::fields::front;
 
 // Rows two, three, four and thirty.
 pub const HEADER_ROWS: u32 = 4;
-
-pub const PER_ROW: u32 = 4;
 
 // No day has more detail rows.
 pub const MAX_DETAILS: u32 = 25;

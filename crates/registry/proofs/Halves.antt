@@ -97,10 +97,6 @@ module _ (reg : Bytes) (places : List ℕ) (count i : ℕ) (p : Places reg Owner
   pub owner-within : getD places i 0 + ownerSize < length reg
   owner-within = omega (arith, p .each i h .whole)
 
-  pub owner-here : (t owner : Bytes) → t ≡ take ownerSize (drop (getD places i 0 + 1) reg) → (r : Bool) → r ≡ equals t owner
-      → r ≡ equals (meterAt reg i .owner) owner
-  owner-here t owner et r er = er ∙ rw (et, p .each i h .owner)
-
 -- ---- BY HALVES
 
 -- every meter before `low` comes before the ESI ID, and every one from `high` on after it

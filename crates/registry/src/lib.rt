@@ -175,6 +175,23 @@ pub fn find(registry: &[u8], meters: &[usize], count: usize, hint: usize, id: &[
     search(registry, meters, count, id)
 }
 
+// A meter's ESI ID, padded, and its owner's DUNS number, padded.
+pub fn id_of<'a>(registry: &'a [u8], meters: &[usize], count: usize, meter: usize) -> &'a [u8]
+    requires { ⌜ Places (now registry) MeterAt (now meters) count ⌝ }
+    requires { ⌜ meter < count ⌝ }
+    ensures { λ r. ⌜ (now r ≡ meterAt (now (registry .entry)) meter .id) × (length (now r) ≡ esiIdSize) ⌝ }
+{
+    text_at(registry, meters[meter], ESI_ID_SIZE)
+}
+
+pub fn owner_of<'a>(registry: &'a [u8], owners: &[usize], count: usize, meter: usize) -> &'a [u8]
+    requires { ⌜ Places (now registry) OwnerAt (now owners) count ⌝ }
+    requires { ⌜ meter < count ⌝ }
+    ensures { λ r. ⌜ (now r ≡ meterAt (now (registry .entry)) meter .owner) × (length (now r) ≡ ownerSize) ⌝ }
+{
+    text_at(registry, owners[meter], OWNER_SIZE)
+}
+
 // The sum of a meter's flags.
 pub fn flags(registry: &[u8], meters: &[usize], count: usize, meter: usize) -> u8
     requires { ⌜ Places (now registry) MeterAt (now meters) count ⌝ }
@@ -192,5 +209,5 @@ pub fn is_owned(registry: &[u8], owners: &[usize], count: usize, meter: usize, o
     requires { ⌜ length (now owner) ≡ ownerSize ⌝ }
     ensures { λ r. ⌜ r ≡ equals (meterAt (now (registry .entry)) meter .owner) (now (owner .entry)) ⌝ }
 {
-    is_same(text_at(registry, owners[meter], OWNER_SIZE), owner)
+    is_same(owner_of(registry, owners, count, meter), owner)
 }

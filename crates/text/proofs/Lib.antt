@@ -5,3 +5,4 @@ pub mod Class
 pub mod Equal
 pub mod Comma
 pub mod Decimal
+pub mod DigitsOf

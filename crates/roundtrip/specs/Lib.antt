@@ -1,0 +1,2 @@
+-- A written record reads back.
+pub mod RoundTrip
