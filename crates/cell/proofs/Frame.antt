@@ -4,11 +4,10 @@ use mathlib.Core.Path.{_≡_, refl, sym, _∙_}
 use mathlib.Core.List.{_++_, append-assoc}
 use mathlib.Core.Bool.{Bool, true, false, cond, _||_}
 use Prim.Native.Nat.{ℕ, _+_, _-_, _*_, _≤_, _<_}
-use native.Mathlib.Numerals.{add-one}
 use native.Mathlib.Omega.{arith}
 use lib.Dec.{ltb}
-use lib.ListN.{length, getD, set, take, drop, take-append-drop, length-append, length-drop}
-use lib.Seq.{take-suc, take-suc-set, take-all, take-at, drop-at, take-append-le, take-take, take-add, drop-drop, length-take-le}
+use lib.ListN.{length, take, drop, take-append-drop, length-append, length-drop}
+use lib.Seq.{take-at, drop-at, take-append-le, take-take, take-add, drop-drop, length-take-le}
 use borrow.Rule.Slice.PartMut.{putMid, post-is}
 use borrow.Author.Tests.{ltb-true, ltb-false}
 use Rattle.text.proofs.Left.{drop-take}
@@ -17,14 +16,6 @@ use Rattle.cell.specs.Read.{stampIn}
 use Rattle.cell.specs.Load.{cellAt, putCell, holdsNone, isLater, merge, loaded}
 
 -- ---- the code
-
--- the copy of a read, word by word
-module _ (to from : Words) (i : ℕ) (inv : take i to ≡ take i from) (h : length to ≡ width) (g : length from ≡ width) where
-  pub copy-again : i < width → take (i + 1) (set to i (getD from i 0)) ≡ take (i + 1) from
-  copy-again l = rw (add-one, take-suc-set to i (getD from i 0) (omega arith), inv) (sym (take-suc from i 0 (omega arith)))
-
-  pub copy-end : width ≤ i → to ≡ from
-  copy-end l = sym (take-all i to (omega arith)) ∙ inv ∙ take-all i from (omega arith)
 
 -- a cell put back where it stood changes nothing
 put-back : (t : Words) (c : ℕ) → putCell t c (cellAt t c) ≡ t

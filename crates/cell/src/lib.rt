@@ -18,7 +18,6 @@ ghost use Prim.Native.Nat.{_<_};
 ghost use lib.ListN.{length};
 ghost use Rattle.cell.specs.Layout.{width, maxIntervals};
 ghost use Rattle.cell.specs.Read.{cleared, begun, withStamp, withInterval, intervalIn, stampIn};
-use crate::load::copy;
 use crate::mark::is_marked;
 use crate::mark::set_mark;
 use details::detail::Interval;
@@ -69,14 +68,25 @@ impl Cell {
     }
 }
 
+// Clears the words of a cell.
+fn clear(words: &mut [u32])
+    requires { ⌜ length (now words) ≡ width ⌝ }
+    ensures { λ _. ⌜ now (words .exit) ≡ cleared ⌝ }
+{
+    let mut i: usize = 0;
+    while i < Cell::WIDTH {
+        words[i] = 0;
+        i += 1;
+    }
+}
+
 // Begins a read of so many intervals, in words that another read may have used.
 pub fn begin(words: &mut [u32], count: u32)
     requires { ⌜ length (now words) ≡ width ⌝ }
     ensures { λ _. ⌜ now (words .exit) ≡ begun count ⌝ }
 {
-    let new = Cell::begun(count);
-    let from = new.words;
-    copy(words, &from);
+    clear(words);
+    words[Cell::COUNT] = count;
 }
 
 pub fn put_stamp(words: &mut [u32], stamp: Stamp)

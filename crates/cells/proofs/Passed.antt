@@ -31,7 +31,7 @@ pub record FoundCell (reg : Bytes) (table : Words) (m c d : ℕ) (w : Words) : T
   pub few : dayIntervals reg d ≤ maxIntervals
   pub sound : isSound (dayIntervals reg d) w ≡ true
 
-address-among : (reg : Bytes) (m c d : ℕ) → isAddress reg m c d ≡ true → Among (meterCount reg) (dayCount reg) m c d
+pub address-among : (reg : Bytes) (m c d : ℕ) → isAddress reg m c d ≡ true → Among (meterCount reg) (dayCount reg) m c d
 unfolding isAddress
 address-among reg m c d h =
     let meter = ltb m (meterCount reg) in

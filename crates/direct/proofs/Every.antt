@@ -22,6 +22,18 @@ every-within class wider g [] h = refl
 every-within class wider g (b ∷ s) h =
     and-both (wider b) (every wider s) (g b (and-left (class b) (every class s) h)) (every-within class wider g s (and-right (class b) (every class s) h))
 
+-- the two parts of a text
+pub every-front : (class : ℕ → Bool) (a b : Bytes) → every class (a ++ b) ≡ true → every class a ≡ true
+unfolding every
+every-front class [] b h = refl
+every-front class (x ∷ a) b h =
+    and-both (class x) (every class a) (and-left (class x) (every class (a ++ b)) h) (every-front class a b (and-right (class x) (every class (a ++ b)) h))
+
+pub every-behind : (class : ℕ → Bool) (a b : Bytes) → every class (a ++ b) ≡ true → every class b ≡ true
+unfolding every
+every-behind class [] b h = h
+every-behind class (x ∷ a) b h = every-behind class a b (and-right (class x) (every class (a ++ b)) h)
+
 pub digits-plain : (s : Bytes) → every isDigit s ≡ true → every inValue s ≡ true
 digits-plain s h = every-within isDigit inValue (λ b g. rw g) s h
 

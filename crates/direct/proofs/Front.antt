@@ -1,4 +1,4 @@
--- Bytes compared one by one with those that are due: the code at the front of a line, the commas behind a value.
+-- Bytes compared one by one with those that are due: the code at the front of a line; and four bytes at a place.
 -- Assumes nothing.
 use mathlib.Core.Path.{_≡_, refl}
 use mathlib.Core.List.{[], _∷_, _++_}
@@ -14,7 +14,7 @@ use Rattle.text.specs.Number.{digitsOf}
 use Rattle.text.proofs.Truth.{and-left, and-right}
 use Rattle.text.proofs.Left.{left-cons}
 use Rattle.details.specs.Detail.{detailCode}
-use Rattle.direct.specs.Guess.{codeSize, tailSize, tail}
+use Rattle.direct.specs.Guess.{codeSize, tailSize}
 
 -- the bytes from i on are those of p: one test each, joined from the left
 abbrev tests : Bool → Bytes → ℕ → Bytes → Bool
@@ -38,14 +38,3 @@ four-at t i l =
     let e₂ : i + 1 + 1 ≡ i + 2 = omega arith in
     let e₃ : i + 2 + 1 ≡ i + 3 = omega arith in
     rw (left-cons t i (omega arith), left-cons t (i + 1) (omega arith), e₂, left-cons t (i + 2) (omega arith), e₃, left-cons t (i + 3) (omega arith))
-
-pub commas : (t : Bytes) (at : ℕ) → at + tailSize ≤ length t → (eqb (getD t at 0) comma && eqb (getD t (at + 2) 0) comma && eqb (getD t (at + 3) 0) comma) ≡ true
-    → take tailSize (drop at t) ≡ tail (getD t (at + 1) 0)
-commas t at l h =
-    let a : Bool = eqb (getD t at 0) comma in
-    let b : Bool = eqb (getD t (at + 2) 0) comma in
-    let h₂ : (a && b) ≡ true = and-left (a && b) _ h in
-    let e₀ : getD t at 0 ≡ comma = eqb-true _ _ (and-left a b h₂) in
-    let e₂ : getD t (at + 2) 0 ≡ comma = eqb-true _ _ (and-right a b h₂) in
-    let e₃ : getD t (at + 3) 0 ≡ comma = eqb-true _ _ (and-right (a && b) _ h) in
-    rw (four-at t at l, e₀, e₂, e₃)

@@ -5,9 +5,8 @@ use mathlib.Core.List.{List, [], _∷_, _++_, append-assoc}
 use mathlib.Core.Bool.{Bool, true, false, not}
 use Prim.Native.Nat.{ℕ, suc, _+_, _*_, _/_, _%_, _<_, _≤_}
 use native.Mathlib.Omega.{arith}
-use native.Mathlib.Numerals.{add-one}
-use lib.ListN.{length, take, drop, getD, set, length-take}
-use lib.Seq.{getD-take, take-add, take-take, take-suc-set}
+use lib.ListN.{length, take, drop, getD, length-take}
+use lib.Seq.{getD-take, take-add, take-take, drop-drop}
 use borrow.Author.Tests.{eq-eqb, le-ltb, not-false}
 use Rattle.text.specs.Byte.{Bytes, every, equals, startsWith}
 use Rattle.text.specs.Field.{comma, cut, inFront}
@@ -23,7 +22,7 @@ use Rattle.details.specs.Value.{valueOf}
 use Rattle.details.specs.Detail.{detailCode, statusOf, withEmpty, intervalOf, fourOf, detailOf, rowDetail}
 use Rattle.details.specs.declared.detail.Interval.{Interval}
 use Rattle.direct.specs.Direct.{DetailLine, directSays}
-use Rattle.direct.specs.Guess.{codeSize, windowSize, tailSize, tail, statusByte, inValue, valueSize, BeginsTriple, tripleSays}
+use Rattle.direct.specs.Guess.{codeSize, windowSize, tailSize, tail, statusByte, inValue, valueSize, HasTriple, tripleSays}
 use Rattle.direct.specs.declared.Direct.{Direct}
 use Rattle.direct.specs.declared.Direct.the-variants.{Line, Other}
 use Rattle.direct.specs.declared.Triple.{Triple}
@@ -126,32 +125,22 @@ pub record LineSoFar (k : ℕ) (t : Bytes) (at : ℕ) (is : List Interval) : Typ
   pub text : take at t ≡ detailCode k ++ comma ∷ rest
   pub gives : Gives rest is
 
-pub line-first : (k : ℕ) (t : Bytes) (r : Bool) → (r ≡ true → take codeSize t ≡ detailCode k ++ comma ∷ []) → not r ≡ false → LineSoFar k t codeSize []
+line-first : (k : ℕ) (t : Bytes) (r : Bool) → (r ≡ true → take codeSize t ≡ detailCode k ++ comma ∷ []) → not r ≡ false → LineSoFar k t codeSize []
 unfolding Gives
 line-first k t r h hr = record { rest = []; text = h (not-false r hr); gives = refl }
 
-line-on : (k : ℕ) (t : Bytes) (at n : ℕ) (is : List Interval) (i : Interval) → LineSoFar k t at is → BeginsTriple (drop at t) i n
-    → LineSoFar k t (at + n + tailSize) (is ++ i ∷ [])
-line-on k t at n is i so-far h =
+line-on : (k : ℕ) (t : Bytes) (at end : ℕ) (is : List Interval) (i : Interval) → LineSoFar k t at is → HasTriple t at i end → LineSoFar k t end (is ++ i ∷ [])
+line-on k t at end is i so-far h =
+    let n : ℕ = h .n in
     let x : Bytes = take (n + tailSize) (drop at t) in
-    let e : at + n + tailSize ≡ at + (n + tailSize) = omega arith in
-    let next : Next x i [] = record { value = take n (drop at t); plain = h .value .plain; worth = h .value .value; text = h .behind } in
+    let e : end ≡ at + (n + tailSize) = omega (arith, h .ends) in
+    let cut : x ≡ take n (drop at t) ++ tail (statusByte (i .estimated)) = rw (take-add n tailSize (drop at t), drop-drop n at t, h .behind) in
+    let next : Next x i [] = record { value = take n (drop at t); plain = h .value .plain; worth = h .value .value; text = cut } in
     record {
       rest = so-far .rest ++ x;
       text = rw (e, take-add at (n + tailSize) t, so-far .text, append-assoc (detailCode k) (comma ∷ so-far .rest) x);
       gives = gives-more (so-far .rest) is x i (so-far .gives) next;
     }
-
--- the answer of the reader of value, status and empty
-module _ (t : Bytes) (at n : ℕ) (i : Interval) (q : Triple) (says : tripleSays q (drop at t)) (eq : q ≡ Read i n) where
-  begun : BeginsTriple (drop at t) i n
-  begun = rw eq at says
-
-  pub triple-short : n ≤ valueSize
-  triple-short = begun .value .short
-
-  pub line-set : (k j : ℕ) (read : List Interval) → LineSoFar k t at (take j read) → j < length read → LineSoFar k t (at + n + tailSize) (take (j + 1) (set read j i))
-  line-set k j read so-far l = rw (add-one, take-suc-set read j i l) (line-on k t at n (take j read) i so-far begun)
 
 -- THE LINE READ: it has no CR to drop, and is not long
 drop-none : (s : Bytes) → every inLine s ≡ true → dropCR s ≡ s
@@ -206,19 +195,47 @@ module _ (k : ℕ) (t : Bytes) (at : ℕ) (a b c d : Interval) (so-far : LineSoF
     row = rw (so-far .text) (line-row (omega (arith, ap length (so-far .text), length-take at t)));
   }
 
-four-of : (read : List Interval) (z : Interval) → length read ≡ 4 → take 4 read ≡ getD read 0 z ∷ getD read 1 z ∷ getD read 2 z ∷ getD read 3 z ∷ []
-four-of [] z h = absurd (omega (arith, h))
-four-of (a ∷ []) z h = absurd (omega (arith, h))
-four-of (a ∷ (b ∷ [])) z h = absurd (omega (arith, h))
-four-of (a ∷ (b ∷ (c ∷ []))) z h = absurd (omega (arith, h))
-four-of (a ∷ (b ∷ (c ∷ (d ∷ read)))) z h = refl
+triple-far : {t : Bytes} {at : ℕ} {i : Interval} {end : ℕ} → HasTriple t at i end → end ≤ at + valueSize + tailSize
+triple-far h = omega (arith, h .ends, h .value .short)
 
-pub line-done : (k : ℕ) (t : Bytes) (at j : ℕ) (read : List Interval) (z : Interval) → LineSoFar k t at (take j read) → length read ≡ 4 → j ≤ 4 → 4 ≤ j
-    → at ≤ codeSize + (valueSize + tailSize) * j → length t ≡ windowSize → getD t at 0 ≡ LF
-    → DetailLine k t (getD read 0 z ∷ getD read 1 z ∷ getD read 2 z ∷ getD read 3 z ∷ []) at
-line-done k t at j read z so-far four j4 j4′ far len lf =
-    let e : j ≡ 4 = omega arith in
-    line-read k t at (getD read 0 z) (getD read 1 z) (getD read 2 z) (getD read 3 z) (rw (e, four-of read z four) at so-far) (omega arith) (omega arith) lf
+-- THE FOUR STEPS of the reader, whose answers q to q‴ are each an interval and the place behind it
+module _ (t : Bytes) (full : length t ≡ windowSize) (q : Triple) (a : Interval) (e : ℕ) (says : tripleSays q codeSize t) (eq : q ≡ Read a e) where
+  first : HasTriple t codeSize a e
+  first = rw eq at says
+
+  pub room : e + valueSize + tailSize ≤ length t
+  room = omega (arith, triple-far first)
+
+  module _ (q′ : Triple) (b : Interval) (e′ : ℕ) (says′ : tripleSays q′ e t) (eq′ : q′ ≡ Read b e′) where
+    second : HasTriple t e b e′
+    second = rw eq′ at says′
+
+    pub room′ : e′ + valueSize + tailSize ≤ length t
+    room′ = omega (arith, triple-far first, triple-far second)
+
+    module _ (q″ : Triple) (c : Interval) (e″ : ℕ) (says″ : tripleSays q″ e′ t) (eq″ : q″ ≡ Read c e″) where
+      third : HasTriple t e′ c e″
+      third = rw eq″ at says″
+
+      pub room″ : e″ + valueSize + tailSize ≤ length t
+      room″ = omega (arith, triple-far first, triple-far second, triple-far third)
+
+      module _ (q‴ : Triple) (d : Interval) (e‴ : ℕ) (says‴ : tripleSays q‴ e″ t) (eq‴ : q‴ ≡ Read d e‴) where
+        fourth : HasTriple t e″ d e‴
+        fourth = rw eq‴ at says‴
+
+        pub within : e‴ < length t
+        within = omega (arith, triple-far first, triple-far second, triple-far third, triple-far fourth)
+
+        pub line-done : (k : ℕ) (r : Bool) → (r ≡ true → take codeSize t ≡ detailCode k ++ comma ∷ []) → not r ≡ false → getD t e‴ 0 ≡ LF
+            → DetailLine k t (a ∷ b ∷ c ∷ d ∷ []) e‴
+        line-done k r h hr lf =
+            let line : LineSoFar k t e‴ (a ∷ b ∷ c ∷ d ∷ []) =
+            line-on k t e″ e‴ (a ∷ b ∷ c ∷ []) d
+            (line-on k t e′ e″ (a ∷ b ∷ []) c (line-on k t e e′ (a ∷ []) b (line-on k t codeSize e [] a (line-first k t r h hr) first) second) third)
+            fourth
+            in
+            line-read k t e‴ a b c d line within (omega (arith, within)) lf
 
 -- A LINE OF THE WINDOW is a line of the piece
 wider : (k m n : ℕ) (s : Bytes) (is : List Interval) → DetailLine k (take m s) is n → DetailLine k s is n

@@ -1,28 +1,47 @@
 -- A value's text, digits with or without a point: what the rule makes of it, and that the reader's tests find such a text.
 -- Assumes nothing.
 use mathlib.Core.Path.{_≡_, refl, ap, sym, _∙_}
-use mathlib.Core.List.{[], _∷_, _++_, append-nil}
+use mathlib.Core.List.{[], _∷_, _++_, append-nil, map}
 use mathlib.Core.Bool.{Bool, true, false, not, _&&_, _||_}
-use Prim.Native.Nat.{ℕ, zero, suc, _+_, _-_, _*_, _<_, _≤_}
+use Prim.Native.Nat.{ℕ, zero, suc, _+_, _-_, _*_, _^_, _<_, _≤_}
 use Prim.Native.Char.{code}
 use native.Mathlib.Omega.{arith}
+use lib.Bits.{bitXor}
 use lib.Dec.{eqb, leb}
 use lib.ListN.{length, take, drop, getD, length-drop}
-use lib.Seq.{length-take-le, getD-drop, take-add, drop-drop}
+use lib.Seq.{length-take-le, getD-drop, take-add, take-take}
 use borrow.Author.Tests.{ne-eqb, le-leb, lt-leb, leb-true, eqb-true, eqb-false, not-true, not-false}
 use Rattle.text.specs.Byte.{Bytes, isDigit, every}
+use Rattle.text.specs.Field.{comma}
 use Rattle.text.specs.Number.{numberFrom, leading, behind}
 use Rattle.text.proofs.Truth.{and-left, and-right, or-right}
-use Rattle.text.proofs.Left.{left-cons}
+use Rattle.text.proofs.Left.{left-cons, drop-take}
 use Rattle.text.proofs.Class.{digit-low}
 use Rattle.lines.specs.Outcome.{passed}
 use Rattle.details.specs.Value.{point, wholeDigits, partDigits, isNegative, wattHours, withPoint, valueParts, valueOf}
-use Rattle.direct.specs.Guess.{Room, Layout, Writes, BeginsValue, BeginsTriple, valueSays, inValue, tail, statusByte, valueSize, tailSize, wholeTaken, wholeMost, partMost}
+use Rattle.direct.specs.Guess.{
+  bytesOf,
+  isNumeral,
+  tensFrom,
+  Layout,
+  Aligned,
+  Writes,
+  BeginsValue,
+  HasTriple,
+  valueSays,
+  inValue,
+  tail,
+  statusByte,
+  valueSize,
+  tailSize,
+  wholeTaken,
+}
 use Rattle.direct.specs.declared.guess.Value.{Value}
 use Rattle.direct.specs.declared.guess.Value.the-variants.{WattHours}
 use Rattle.text.proofs.Class.{every-append}
 use Rattle.direct.proofs.Every.{digits-plain}
-use Rattle.direct.proofs.Digit.{exact}
+use Rattle.direct.proofs.Numeral.{spread}
+use Rattle.direct.proofs.Digit.{lessZero, less-bytes, map-take, map-drop, both-write, whole-writes, part-writes, exact}
 
 -- DIGITS AT THE FRONT of a text
 module _ (r : Bytes) where
@@ -89,6 +108,7 @@ layout n d l h =
     let z : n ≡ 0 → ⊥ = eqb-false n 0 (not-true _ (and-left some (leb d wholeTaken) h₂)) in
     record {
       some = omega arith;
+      inside = l;
       whole = leb-true d wholeTaken (and-right some (leb d wholeTaken) h₂);
       part = leb-true (n - d) (partDigits + 1) (and-right (some && leb d wholeTaken && digit) (leb (n - d) (partDigits + 1)) h);
       digit = eqb-false (n - d) 1 (not-true _ (and-right (some && leb d wholeTaken) digit h₃));
@@ -126,20 +146,60 @@ read-by s n d (suc m) whole part e l y g w v =
           (point-value (take d s) (take m (drop (d + 1) s)) whole part w v′ (omega (arith, q, y .whole)) (omega (arith, p, y .digit)) (omega (arith, p, y .part)));
     }
 
--- the reader's answer, wherever its guesses n and d point; m digits stand behind the point
-module _ (t : Bytes) (at n d : ℕ) (room : Room at t) (r : Bool) (fits : r ≡ true → Layout n d) (hr : not r ≡ false) where
-  pub value-read : (m whole part : ℕ) (q : Bool) → m ≡ n - d - 1 → n ≤ valueSize → d ≤ n
-      → (q ≡ true → 0 < n - d → getD t (at + d) 0 ≡ point) → not q ≡ false
-      → (whole ≤ wholeMost → Writes 0 (take d (drop at t)) whole) → whole ≤ wholeMost
-      → (part ≤ partMost → Writes partDigits (take m (drop (at + d + 1) t)) part) → part ≤ partMost
-      → BeginsValue (drop at t) (whole * 1000 + part) n
-  value-read m whole part q e n8 dn g hq w hw v hv =
-      let here : drop (d + 1) (drop at t) ≡ drop (at + d + 1) t = drop-drop (d + 1) at t ∙ ap (λ k. drop k t) (sum at d) in
-      read-by (drop at t) n d (n - d) whole part (omega arith) (simp length-drop (omega (arith, room .behind))) (fits (not-false r hr))
-      (λ l. getD-drop at t d 0 ∙ g (not-false q hq) l) (w hw) (rw (here, ← e) (v hv))
-    where
-      sum : (a b : ℕ) → a + (b + 1) ≡ a + b + 1
-      sum a b = omega arith
+-- the reader's answer, wherever its guesses n and d point: w has the value's bytes, and a its digits
+module _ (t : Bytes) (at n d : ℕ) (room : at + valueSize + tailSize ≤ length t) (r : Bool) (fits : r ≡ true → Layout n d)
+    (hr : not r ≡ false) (w a : ℕ) (here : bytesOf 8 w ≡ take 8 (drop at t)) (line : Aligned n d (bitXor w (spread 48 8)) a) where
+  abbrev s : Bytes
+  s = drop at t
+
+  abbrev m : ℕ
+  m = n - d - 1
+
+  abbrev whole : Bytes
+  whole = take d s
+
+  abbrev part : Bytes
+  part = take m (drop (d + 1) s)
+
+  y : Layout n d
+  y = fits (not-false r hr)
+
+  part-long : length part ≡ m
+  part-long = length-take-le m (drop (d + 1) s) (simp length-drop (omega (arith, y .whole, y .part)))
+
+  lined : bytesOf 8 a ≡ (bytesOf (5 - d) 0 ++ map lessZero whole) ++ (map lessZero part ++ bytesOf (3 - length part) 0)
+  lined =
+      line .parts
+      ∙ rw (
+        less-bytes 8 w,
+        here,
+        map-take d (take 8 s),
+        take-take d 8 s (omega (arith, y .whole)),
+        map-drop (d + 1) (take 8 s),
+        drop-take (d + 1) 8 s,
+        map-take m (take (8 - (d + 1)) (drop (d + 1) s)),
+        take-take m (8 - (d + 1)) (drop (d + 1) s) (omega (arith, y .whole, y .part)),
+        part-long,
+      )
+
+  pub value-read : (v : ℕ) (q b : Bool) → (q ≡ true → 0 < n - d → getD t (at + d) 0 ≡ point) → not q ≡ false
+      → (b ≡ true → every isNumeral (bytesOf 8 a) ≡ true) → not b ≡ false → v ≡ tensFrom 0 (bytesOf 8 a) → BeginsValue (drop at t) v n
+  value-read v q b g hq small hb e =
+      let short : length part ≤ 3 = omega (arith, part-long, y .part) in
+      let all : every isNumeral (bytesOf 8 a) ≡ true = small (not-false b hb) in
+      rw (e, both-write (5 - d) whole part short (bytesOf 8 a) lined)
+      (read-by s n d (n - d) _ _ (omega (arith, y .inside)) (simp length-drop (omega (arith, y .whole, y .part))) y (λ l. getD-drop at t d 0 ∙ g (not-false q hq) l)
+      (whole-writes (5 - d) whole part short (bytesOf 8 a) lined all)
+      (part-writes (5 - d) whole part short (bytesOf 8 a) lined all))
+
+-- what stands behind a value, as a word
+abbrev tailWord : Bool → ℕ
+tailWord estimated = comma + statusByte estimated * 2 ^ 8 + comma * 2 ^ 16 + comma * 2 ^ 24
+
+tail-bytes : (estimated : Bool) → bytesOf 4 (tailWord estimated) ≡ tail (statusByte estimated)
+unfolding bytesOf
+tail-bytes true = refl
+tail-bytes false = refl
 
 -- the answer of the value's reader
 module _ (t : Bytes) (at wh n : ℕ) (v : Value) (says : valueSays v (drop at t)) (ev : v ≡ WattHours wh n) where
@@ -149,9 +209,7 @@ module _ (t : Bytes) (at wh n : ℕ) (v : Value) (says : valueSays v (drop at t)
   pub value-short : n ≤ valueSize
   value-short = begun .short
 
-  pub triple-read : (estimated : Bool) (r : Bool) → (r ≡ true → take tailSize (drop (at + n) t) ≡ tail (getD t (at + n + 1) 0)) → not r ≡ false
-      → getD t (at + n + 1) 0 ≡ statusByte estimated → BeginsTriple (drop at t) (record { wh = wh; estimated = estimated }) n
-  triple-read estimated r h hr e = record {
-    value = begun;
-    behind = rw (take-add n tailSize (drop at t), drop-drop n at t, h (not-false r hr), e);
-  }
+  -- x is the word behind the value
+  module _ (x : ℕ) (word : bytesOf 4 x ≡ take 4 (drop (at + n) t)) where
+    pub triple-read : (estimated : Bool) → x ≡ tailWord estimated → HasTriple t at (record { wh = wh; estimated = estimated }) (at + n + tailSize)
+    triple-read estimated e = record { n = n; value = begun; behind = sym word ∙ rw e (tail-bytes estimated); ends = refl }

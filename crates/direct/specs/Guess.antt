@@ -1,13 +1,13 @@
--- What the parts of the direct reader owe each other: digits at a place, a value, and value, status and empty field together. It says only
+-- What the parts of the direct reader owe each other: the bytes of a word, a value, and value, status and empty field together. It says only
 -- how the reader works; what a caller must believe is in Direct.
 -- Assumes nothing.
 use mathlib.Core.Path.{_≡_}
 use mathlib.Core.List.{[], _∷_, _++_}
 use mathlib.Core.Bool.{Bool, true, false, _||_}
-use Prim.Native.Nat.{ℕ, _+_, _-_, _*_, _^_, _≤_, _<_}
+use Prim.Native.Nat.{ℕ, zero, suc, _+_, _-_, _*_, _/_, _%_, _^_, _≤_, _<_}
 use Prim.Native.Char.{code}
-use lib.Dec.{eqb}
-use lib.ListN.{length, take}
+use lib.Dec.{eqb, leb}
+use lib.ListN.{length, take, drop}
 use Rattle.text.specs.Byte.{Bytes, isDigit, every}
 use Rattle.text.specs.Field.{comma}
 use Rattle.text.specs.Number.{number}
@@ -31,13 +31,6 @@ codeSize = 9
 abbrev pub wholeTaken : ℕ
 wholeTaken = 4
 
--- the largest numbers of so many digits, before and behind the point
-abbrev pub wholeMost : ℕ
-wholeMost = 10 ^ wholeTaken - 1
-
-abbrev pub partMost : ℕ
-partMost = 10 ^ partDigits - 1
-
 -- the longest value that is taken, point included
 abbrev pub valueSize : ℕ
 valueSize = wholeTaken + 1 + partDigits
@@ -53,23 +46,30 @@ tail status = comma ∷ status ∷ comma ∷ comma ∷ []
 abbrev pub tailSize : ℕ
 tailSize = 4
 
--- behind the place there is room for the longest value with its tail; and before it for digits, which are read from the point to the left
-pub record Room (at : ℕ) (s : Bytes) : Type 0 where
-  pub before : wholeTaken ≤ at
-  pub behind : at + valueSize + tailSize ≤ length s
-
 -- a value may have n bytes, d of them before its point (all of them, if it has none): a point has a digit behind it
 pub record Layout (n d : ℕ) : Type 0 where
   pub some : 0 < n
+  pub inside : d ≤ n
   pub whole : d ≤ wholeTaken
   pub part : n - d ≤ partDigits + 1
   pub digit : n - d ≡ 1 → ⊥
 
--- r, of the byte b: its digit, where one is wanted, or more than 9 if it is none; and 0 where none is wanted
-pub record DigitIf (on : Bool) (b r : ℕ) : Type 0 where
-  pub small : r < 256
-  pub yes : on ≡ true → r ≤ 9 → b ≡ code "0" + r
-  pub no : on ≡ false → r ≡ 0
+-- the k lowest bytes of a word, the lowest first; of the word 0, k zeros
+unfoldable pub bytesOf : ℕ → ℕ → Bytes
+bytesOf zero w = []
+bytesOf (suc k) w = w % 256 ∷ bytesOf k (w / 256)
+
+-- a digit's number, and the number that such bytes write, behind a number read so far (`numberFrom` is the same of the digits)
+abbrev pub isNumeral : ℕ → Bool
+isNumeral b = leb b 9
+
+unfoldable pub tensFrom : ℕ → Bytes → ℕ
+tensFrom n [] = n
+tensFrom n (b ∷ s) = tensFrom (n * 10 + b) s
+
+-- the bytes of r: of n bytes of x the d first, with zeros before them five in all; then those behind place d, with zeros behind them three
+pub record Aligned (n d x r : ℕ) : Type 0 where
+  pub parts : bytesOf 8 r ≡ (bytesOf (5 - d) 0 ++ take d (bytesOf 8 x)) ++ (take (n - d - 1) (drop (d + 1) (bytesOf 8 x)) ++ bytesOf (3 - (n - d - 1)) 0)
 
 -- digits only, which write n once zeros behind them fill them up to w digits (behind a point, `partDigits`; before it 0, so no zeros)
 pub record Writes (w : ℕ) (s : Bytes) (n : ℕ) : Type 0 where
@@ -90,11 +90,13 @@ abbrev pub valueSays : Value → Bytes → Type 0
 valueSays (WattHours wh n) s = BeginsValue s wh n
 valueSays ValueOther s = Unit {0}
 
--- the bytes begin with an interval, whose value has n bytes: value, status and empty field, with their commas
-pub record BeginsTriple (s : Bytes) (i : Interval) (n : ℕ) : Type 0 where
-  pub value : BeginsValue s (i .wh) n
-  pub behind : take (n + tailSize) s ≡ take n s ++ tail (statusByte (i .estimated))
+-- an interval stands at a place and ends before `end`: a value of n bytes, status and empty field, with their commas
+pub record HasTriple (s : Bytes) (at : ℕ) (i : Interval) (end : ℕ) : Type 0 where
+  pub n : ℕ
+  pub value : BeginsValue (drop at s) (i .wh) n
+  pub behind : take tailSize (drop (at + n) s) ≡ tail (statusByte (i .estimated))
+  pub ends : end ≡ at + n + tailSize
 
-abbrev pub tripleSays : Triple → Bytes → Type 0
-tripleSays (Read i n) s = BeginsTriple s i n
-tripleSays TripleOther s = Unit {0}
+abbrev pub tripleSays : Triple → ℕ → Bytes → Type 0
+tripleSays (Read i end) at s = HasTriple s at i end
+tripleSays TripleOther at s = Unit {0}

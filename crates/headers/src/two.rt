@@ -21,6 +21,9 @@ use text::fields::field;
 use text::numbers::digits;
 use text::numbers::number_of;
 
+// Row two as nearly every file has it: a line that is the same passes at once, without a walk along its fields.
+const USUAL: [u8; 42] = *b"00000002,0,0,0,,0,,900,01,1,-1,0.0,0.0,CST";
+
 const FIELDS: usize = 14;
 // The form of each field, by its code in `fits`.
 const FORMS: [u8; 14] = [0, 1, 1, 1, 2, 1, 2, 3, 4, 5, 6, 1, 1, 7];
@@ -122,6 +125,9 @@ fn has_multiplier(line: &[u8]) -> bool
 pub fn read_two(line: &[u8], cr: bool) -> Checked
     ensures { λ r. ⌜ checkedSays r ≡ rowTwo (lineOf (now (line .entry)) cr) ⌝ }
 {
+    if same(line, &USUAL) {
+        return Checked::Passed;
+    }
     match begin(line, cr, b"00000002", 14) {
         Begun::Refused(verdict) => Checked::Refused(verdict),
         Begun::Fields => {

@@ -5,9 +5,8 @@ use mathlib.Core.List.{_∷_}
 use mathlib.Core.Bool.{Bool, not, _&&_, _||_, and-true, and-assoc}
 use Prim.Native.Nat.{ℕ, _+_, _≤_, _<_}
 use native.Mathlib.Omega.{arith}
-use lib.Dec.{eqb}
 use lib.ListN.{length, getD, drop}
-use Rattle.text.specs.Byte.{Bytes, isAlnum, every, equals}
+use Rattle.text.specs.Byte.{Bytes, isAlnum, every}
 use Rattle.text.proofs.Class.{every-step}
 use Rattle.text.proofs.Left.{left-cons, left-none}
 use Rattle.padded.specs.Padding.{isSpace}
@@ -32,15 +31,3 @@ module _ (s : Bytes) (i : ℕ) (ok : Bool) (inv : spacesLast s ≡ (ok && spaces
       let l : i < length s = omega arith in
       let n : length s ≤ i + 1 = omega arith in
       sym (inv ∙ rw (left-cons s i l, left-none s (i + 1) n) (and-true ok))
-
--- two texts are equal
-module _ (s t : Bytes) (i : ℕ) (ok : Bool) (inv : equals s t ≡ (ok && equals (drop i s) (drop i t))) (long : length s ≡ length t) where
-  pub equals-step : i < length s → equals s t ≡ ((ok && eqb (getD s i 0) (getD t i 0)) && equals (drop (i + 1) s) (drop (i + 1) t))
-  unfolding equals
-  equals-step h =
-      inv ∙ rw (left-cons s i h, left-cons t i (omega arith))
-      (sym (and-assoc ok (eqb (getD s i 0) (getD t i 0)) (equals (drop (i + 1) s) (drop (i + 1) t))))
-
-  pub equals-end : length s ≤ i → ok ≡ equals s t
-  unfolding equals
-  equals-end h = sym (inv ∙ rw (left-none s i h, left-none t i (omega arith)) (and-true ok))

@@ -56,7 +56,7 @@ pub fn compare(s: &[u8], t: &[u8]) -> Order
     Order::Same
 }
 
-// Whether two texts of one length are the same. Unlike `text::bytes::same` it does not stop early.
+// Whether two texts of one length are the same.
 pub fn is_same(s: &[u8], t: &[u8]) -> bool
     requires { ⌜ length (now s) ≡ length (now t) ⌝ }
     ensures { λ r. ⌜ r ≡ equals (now (s .entry)) (now (t .entry)) ⌝ }

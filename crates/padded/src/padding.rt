@@ -1,27 +1,16 @@
 // Texts padded at the end with spaces.
 ghost use mathlib.Core.Path.{_≡_};
 ghost use Prim.Native.Nat.{_<_, _≤_};
-ghost use lib.ListN.{length, getD};
-ghost use Rattle.text.specs.Byte.{isDigit, every};
+ghost use lib.ListN.{length, replicate};
+ghost use Rattle.text.specs.Byte.{every};
 ghost use Rattle.text.specs.Identifier.{esiIdSize, dunsSize};
 ghost use Rattle.padded.specs.Padding.{space, isSpace, pad, unpad, isPaddedEsiId, isPaddedDuns};
 ghost use Rattle.padded.specs.Private.{isPadded, spacesLast};
+use text::bytes::all_digits;
+use text::bytes::copy;
 use text::bytes::is_alnum;
-use text::bytes::is_digit;
 
 const SPACE: u8 = b' ';
-
-fn all_digits(s: &[u8]) -> bool
-    ensures { λ r. ⌜ r ≡ every isDigit (now (s .entry)) ⌝ }
-{
-    let mut ok = true;
-    let mut i: usize = 0;
-    while i < s.len() {
-        ok = ok & is_digit(s[i]);
-        i += 1;
-    }
-    ok
-}
 
 fn all_spaces(s: &[u8]) -> bool
     ensures { λ r. ⌜ r ≡ every isSpace (now (s .entry)) ⌝ }
@@ -82,14 +71,14 @@ pub fn is_padded_duns(s: &[u8]) -> bool
     all_digits(nine) & (all_digits(rest) | all_spaces(rest))
 }
 
-// The byte at a place of a text that spaces follow.
-fn byte_at(text: &[u8], i: usize) -> u8
-    ensures { λ r. ⌜ r ≡ getD (now (text .entry)) i space ⌝ }
+fn put_spaces(to: &mut [u8])
+    ensures { λ _. ⌜ now (to .exit) ≡ replicate (length (now (to .entry))) space ⌝ }
 {
-    if i < text.len() {
-        return text[i];
+    let mut i: usize = 0;
+    while i < to.len() {
+        to[i] = SPACE;
+        i += 1;
     }
-    SPACE
 }
 
 // Puts a text with spaces behind it, as many bytes as there are.
@@ -97,11 +86,9 @@ pub fn put_padded(to: &mut [u8], text: &[u8])
     requires { ⌜ length (now text) ≤ length (now to) ⌝ }
     ensures { λ _. ⌜ now (to .exit) ≡ pad (length (now (to .entry))) (now (text .entry)) ⌝ }
 {
-    let mut i: usize = 0;
-    while i < to.len() {
-        to[i] = byte_at(text, i);
-        i += 1;
-    }
+    let n = text.len();
+    copy(&mut to[..n], text);
+    put_spaces(&mut to[n..]);
 }
 
 // A text without the spaces at its end, as that part of the padded one.

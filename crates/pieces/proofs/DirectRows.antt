@@ -17,19 +17,18 @@ use Rattle.details.specs.declared.detail.Interval.{Interval}
 use Rattle.cell.specs.Layout.{Words, width}
 use Rattle.cell.specs.Read.{withIntervals}
 use Rattle.plain.specs.Rows.{Rows, headerRows, maxDetails, withRow, afterDetail, detailRow, nextRow, rulesOf}
-use Rattle.plain.specs.Loader.{takesRows, settle, scan, stepKind, stepLine, scanTo, scanEvents}
+use Rattle.plain.specs.Loader.{OpenUnit, takesRows, settle, Scan, scan, stepKind, stepLine, scanTo, scanEvents}
 use Rattle.plain.specs.Call.{byteLimit}
 use Rattle.plain.proofs.Seam.{starts-split}
-use Rattle.plain.proofs.Pieces.{scanTo-append, scanEvents-append}
-use Rattle.plain.proofs.LineScan.{line-scan-to, line-scan-events}
 use Rattle.direct.specs.Direct.{DetailLine, directSays}
 use Rattle.direct.specs.declared.Direct.{Direct}
 use Rattle.direct.specs.declared.Direct.the-variants.{Line}
 use Rattle.records.specs.declared.Progress.{Progress}
 use Rattle.records.specs.Answer.{rowsOf}
 use Rattle.records.proofs.Steps.{due-detail}
-use Rattle.pieces.specs.Ran.{between, readTo, RowsRan}
+use Rattle.pieces.specs.Ran.{between, withRead, readTo, RowsRan}
 use Rattle.pieces.proofs.Ends.{between-add}
+use Rattle.pieces.proofs.Running.{more-to, more-quiet}
 
 -- ---- ONE LINE
 
@@ -122,35 +121,32 @@ module _ (p : Progress) (lines : ℕ) (piece : Bytes) (at : ℕ) (words₀ : Wor
         sized = wide;
         details = omega arith;
         fits = omega (arith, inv .fits, line-within);
-        reaches = λ reg id sender first. to reg id sender first;
-        quiet = λ reg id sender first. silent reg id sender first;
+        reaches = λ reg id sender first.
+            let c : headerRows + (k + 1) ≡ suc (headerRows + k) = omega arith in
+            rw (add-one n, c)
+            (more-to (rulesOf reg) (from id sender first) piece at e (e + len + 1) (take len (drop e piece)) part (d .clean) n (held id sender first) (next id sender first) (inv .reaches reg id sender first) (step reg id sender first));
+        quiet = λ reg id sender first.
+            more-quiet (rulesOf reg) (from id sender first) piece at e (e + len + 1) (take len (drop e piece)) part (d .clean) n (held id sender first) (next id sender first) (inv .reaches reg id sender first) (step reg id sender first) (inv .quiet reg id sender first);
       }
     where
+      rows : (id sender : Bytes) → Rows
+      rows id sender = rowsOf (withRead p (headerRows + k)) id sender words
+
+      from : (id sender : Bytes) (first : ℕ) → Scan
+      from id sender first = scan [] lines (takesRows first (rowsOf p id sender words₀))
+
+      held : (id sender : Bytes) (first : ℕ) → OpenUnit
+      held id sender first = takesRows first (rows id sender)
+
+      next : (id sender : Bytes) (first : ℕ) → OpenUnit
+      next id sender first = takesRows first (rowsOf (withRead p (suc (headerRows + k))) id sender words')
+
       part : between at (e + len + 1) piece ≡ between at e piece ++ (take len (drop e piece) ++ (LF ∷ []))
       part =
           let z : e + len + 1 ≡ suc (e + len) = omega arith in
           between-add piece at e (e + len + 1) (inv .behind) (omega arith)
           ∙ ap (λ r. between at e piece ++ r) (rw z (between-line piece e len (d .within) (d .ends)))
 
-      rows : (id sender : Bytes) → Rows
-      rows id sender = rowsOf (record { read = headerRows + k; due = p .due; day = p .day; channel = p .channel }) id sender words
-
       step : (reg id sender : Bytes) (first : ℕ)
-          → stepLine (rulesOf reg) (suc n) (endedLine (take len (drop e piece))) (takesRows first (rows id sender))
-          ≡ record { unit = takesRows first (withRow (rows id sender) (withIntervals words (k * perRow) vs) sender); events = [] }
-      step reg id sender first = goes reg (rows id sender) first (suc n) (omega arith) (omega arith) small more
-
-      to : (reg id sender : Bytes) (first : ℕ)
-          → scanTo (rulesOf reg) (scan [] lines (takesRows first (rowsOf p id sender words₀))) (between at (e + len + 1) piece)
-          ≡ scan [] (n + 1) (takesRows first (rowsOf (record { read = headerRows + (k + 1); due = p .due; day = p .day; channel = p .channel }) id sender words'))
-      to reg id sender first =
-          let c : headerRows + (k + 1) ≡ suc (headerRows + k) = omega arith in
-          rw (part, scanTo-append (rulesOf reg) (scan [] lines (takesRows first (rowsOf p id sender words₀))) (between at e piece) (take len (drop e piece) ++ (LF ∷ [])), inv .reaches reg id sender first)
-          (line-scan-to (rulesOf reg) n (takesRows first (rows id sender)) [] (take len (drop e piece)) (d .clean)
-          ∙ rw (step reg id sender first, add-one, c, put))
-
-      silent : (reg id sender : Bytes) (first : ℕ)
-          → scanEvents (rulesOf reg) (scan [] lines (takesRows first (rowsOf p id sender words₀))) (between at (e + len + 1) piece) ≡ []
-      silent reg id sender first =
-          rw (part, scanEvents-append (rulesOf reg) (scan [] lines (takesRows first (rowsOf p id sender words₀))) (between at e piece) (take len (drop e piece) ++ (LF ∷ [])), inv .quiet reg id sender first, inv .reaches reg id sender first)
-          (line-scan-events (rulesOf reg) n (takesRows first (rows id sender)) [] (take len (drop e piece)) (d .clean) ∙ rw (step reg id sender first))
+          → stepLine (rulesOf reg) (suc n) (endedLine (take len (drop e piece))) (held id sender first) ≡ record { unit = next id sender first; events = [] }
+      step reg id sender first = goes reg (rows id sender) first (suc n) (omega arith) (omega arith) small more ∙ rw put

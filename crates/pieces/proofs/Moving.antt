@@ -14,6 +14,7 @@ use Rattle.text.proofs.Truth.{and-left, and-right}
 use Rattle.lines.specs.Line.{LF, endedLine}
 use Rattle.details.specs.Detail.{perRow}
 use Rattle.details.specs.declared.detail.Interval.{Interval}
+use Rattle.registry.specs.Entry.{ownerSize}
 use Rattle.cell.specs.Layout.{Words, width}
 use Rattle.cell.specs.Read.{withIntervals}
 use Rattle.plain.specs.Rows.{rulesOf, headerRows, maxDetails, withRow, afterDetail}
@@ -26,16 +27,15 @@ use Rattle.direct.specs.Direct.{DetailLine}
 use Rattle.records.specs.declared.Known.{Known}
 use Rattle.records.specs.declared.Progress.{Progress}
 use Rattle.records.specs.declared.RowRead.{RowRead}
-use Rattle.records.specs.Answer.{rowsOf, rowSays, Few}
+use Rattle.records.specs.Answer.{rowsOf, rowSays, Few, Indexed}
 use Rattle.units.specs.declared.Unit.{Unit as KeptUnit}
 use Rattle.units.specs.declared.Unit.the-variants.{Takes}
-use Rattle.units.specs.declared.Said.the-variants.{Nothing}
 use Rattle.units.specs.declared.Stepped.{Stepped}
 use Rattle.units.specs.Answer.{unitOf, told, Settles, HasRoom}
 use Rattle.pieces.specs.declared.rows.RowsRead.{RowsRead}
 use Rattle.pieces.specs.declared.line.Moved.{Moved}
 use Rattle.pieces.specs.declared.run.Run.{Run}
-use Rattle.pieces.specs.Ran.{between, scanOf, Ran, Holds, RowsRan, movedTo, toldIn, Moves, entriesIn, batchSize, batchWords, Runs}
+use Rattle.pieces.specs.Ran.{between, scanOf, Ran, Holds, HeadersRan, RowsRan, movedTo, movedBehind, toldIn, Moves, entriesIn, batchSize, batchWords, Runs}
 use Rattle.pieces.proofs.Ends.{between-add}
 use Rattle.pieces.proofs.DirectRows.{between-line, direct-step}
 use Rattle.pieces.proofs.Running.{ran-both, ran-none}
@@ -112,44 +112,58 @@ module _ (reg kept : Bytes) (lines first : ℕ) (p : Progress) (id sender : Byte
               };
         })
 
--- ---- DETAIL LINES, AND WHAT COMES BEHIND THEM
+-- ---- ROWS, AND WHAT COMES BEHIND THEM
+
+-- detail rows ask nothing of the Sender
+pub details-ran : (p : Progress) (lines : ℕ) (piece : Bytes) (at : ℕ) (words : Words) (r : RowsRead) (words' : Words) → RowsRan p lines piece at words r words'
+    → (sender : Bytes) → length sender ≡ ownerSize → HeadersRan p lines piece at sender words r sender words'
+details-ran p lines piece at words r words' rows sender ls =
+    record {
+      behind = rows .behind;
+      within = rows .within;
+      senderSized = ls;
+      sized = rows .sized;
+      fits = rows .fits;
+      reaches = λ reg id first. rows .reaches reg id sender first;
+      quiet = λ reg id first. rows .quiet reg id sender first;
+    }
 
 module _ (reg kept : Bytes) (lines first : ℕ) (p : Progress) (id sender : Bytes) (words : Words) (piece : Bytes) (at : ℕ)
-    (h : Holds kept 0 lines (Takes first p) id sender words (length piece - at)) (r : RowsRead) (words' t : Words) (rows : RowsRan p lines piece at words r words') where
-  few-behind : detailsIn (unitOf (Takes first (r .progress)) id sender words') ≤ maxDetails
+    (h : Holds kept 0 lines (Takes first p) id sender words (length piece - at)) (r : RowsRead) (sender' : Bytes) (words' t : Words)
+    (rows : HeadersRan p lines piece at sender words r sender' words') where
+  few-behind : detailsIn (unitOf (Takes first (r .progress)) id sender' words') ≤ maxDetails
   few-behind =
-      rw (ap (λ x. x .unit) (rows .reaches reg id sender first)) at
+      rw (ap (λ x. x .unit) (rows .reaches reg id first)) at
       (few-scan reg (scanOf kept 0 lines (Takes first p) id sender words) (between at (r .at) piece) (h .details))
 
-  pub rows-hold : Holds kept 0 (r .lines) (Takes first (r .progress)) id sender words' (length piece - r .at)
+  pub rows-hold : Holds kept 0 (r .lines) (Takes first (r .progress)) id sender' words' (length piece - r .at)
   rows-hold =
       record {
         keptSized = h .keptSized;
         few = omega arith;
-        sized = record { idSized = h .sized .idSized; senderSized = h .sized .senderSized; wordsSized = rows .sized };
+        sized = record { idSized = h .sized .idSized; senderSized = rows .senderSized; wordsSized = rows .sized };
         details = few-behind;
         fits = rows .fits;
       }
 
   rows-ran : Ran (rulesOf reg) (scanOf kept 0 lines (Takes first p) id sender words) (between at (r .at) piece)
-      (scanOf kept 0 (r .lines) (Takes first (r .progress)) id sender words') [] t t
+      (scanOf kept 0 (r .lines) (Takes first (r .progress)) id sender' words') [] t t
   unfolding entriesOf loadsOf loadAll
   rows-ran =
       record {
-        reaches = sym (ap cutScan (rows .reaches reg id sender first));
-        tells = record { entered = rw (rows .quiet reg id sender first); loads = rw (rows .quiet reg id sender first) };
+        reaches = sym (ap cutScan (rows .reaches reg id first));
+        tells = record { entered = rw (rows .quiet reg id first); loads = rw (rows .quiet reg id first) };
       }
 
   -- the piece ends behind them
-  pub rows-end : at < length piece → r .at ≡ length piece
-      → Moves reg (scanOf kept 0 lines (Takes first p) id sender words) piece at
-      (record { unit = Takes first (r .progress); lines = r .lines; held = 0; at = r .at; first = Nothing; second = Nothing }) kept id sender words' t t
-  rows-end more e = record { behind = omega arith; within = rows .within; holds = rows-hold; ran = rows-ran }
+  pub rows-end : at < length piece → r .at ≡ length piece → (m : Moved) → m ≡ movedBehind first r
+      → Moves reg (scanOf kept 0 lines (Takes first p) id sender words) piece at m kept id sender' words' t t
+  rows-end more e m is = rw is (record { behind = omega arith; within = rows .within; holds = rows-hold; ran = rows-ran })
 
-  pub rows-then : (m : Moved) (kept' id' sender' : Bytes) (words₂ t' : Words)
-      → Moves reg (scanOf kept 0 (r .lines) (Takes first (r .progress)) id sender words') piece (r .at) m kept' id' sender' words₂ t t'
-      → Moves reg (scanOf kept 0 lines (Takes first p) id sender words) piece at m kept' id' sender' words₂ t t'
-  rows-then m kept' id' sender' words₂ t' v =
+  pub rows-then : (m : Moved) (kept' id' sender₂ : Bytes) (words₂ t' : Words)
+      → Moves reg (scanOf kept 0 (r .lines) (Takes first (r .progress)) id sender' words') piece (r .at) m kept' id' sender₂ words₂ t t'
+      → Moves reg (scanOf kept 0 lines (Takes first p) id sender words) piece at m kept' id' sender₂ words₂ t t'
+  rows-then m kept' id' sender₂ words₂ t' v =
       record {
         behind = omega (arith, rows .behind, v .behind);
         within = v .within;
@@ -171,15 +185,6 @@ unit-same reg kept held lines unit unit' id sender words piece at m kept' id' se
 pub held-same : (kept : Bytes) (held lines : ℕ) (unit unit' : KeptUnit) (id sender : Bytes) (words : Words) (left : ℕ) → held ≡ 0 → unit ≡ unit'
     → Holds kept held lines unit id sender words left → Holds kept 0 lines unit' id sender words left
 held-same kept held lines unit unit' id sender words left z e h = rw (z, e) at h
-
-module _ (kept : Bytes) (held lines : ℕ) (unit unit' : KeptUnit) (id sender : Bytes) (words : Words) (e : unit' ≡ unit) where
-  pub met-holds : (left : ℕ) → Holds kept held lines unit id sender words left → Holds kept held lines unit' id sender words left
-  met-holds left h = rw e h
-
-  pub met-moves : (reg piece : Bytes) (at : ℕ) (m : Moved) (kept' id' sender' : Bytes) (words' t t' : Words)
-      → Moves reg (scanOf kept held lines unit' id sender words) piece at m kept' id' sender' words' t t'
-      → Moves reg (scanOf kept held lines unit id sender words) piece at m kept' id' sender' words' t t'
-  met-moves reg piece at m kept' id' sender' words' t t' v = rw e at v
 
 -- as far as a batch has come
 pub record Comes (reg : Bytes) (from : Scan) (piece : Bytes) (at : ℕ) (r : Run) (kept id sender : Bytes) (words before after out : Words) : Type 0 where
@@ -259,3 +264,18 @@ module _ (reg : Bytes) (from : Scan) (piece : Bytes) (at : ℕ) (r : Run) (kept 
 -- the table is as long as it was
 pub room-same : (known : Known) (t t' : Words) → HasRoom known t → length t' ≡ length t → HasRoom known t'
 room-same known t t' h e = record { few = h .few; short = h .short; long = rw e (h .long) }
+
+-- another meter to try first
+module _ (known known' : Known) (count : known' .count ≡ known .count) (window : known' .window ≡ known .window) where
+  pub hinted-index : (reg : Bytes) (meters owners : List ℕ) → Indexed reg meters owners known → Indexed reg meters owners known'
+  hinted-index reg meters owners h =
+      record {
+        meterPlaces = rw count (h .meterPlaces);
+        ownerPlaces = rw count (h .ownerPlaces);
+        most = rw count (h .most);
+        short = rw window (h .short);
+        windowed = rw window (h .windowed);
+      }
+
+  pub hinted-room : (t : Words) → HasRoom known t → HasRoom known' t
+  hinted-room t h = record { few = rw count (h .few); short = rw window (h .short); long = rw (count, window) (h .long) }

@@ -3,19 +3,23 @@
 -- Assumes nothing.
 use mathlib.Core.Path.{_≡_}
 use mathlib.Core.List.{List, [], _∷_, _++_}
+use mathlib.Core.Bool.{Bool, true, false}
 use Prim.Native.Nat.{ℕ, zero, suc, _+_, _-_, _*_, _<_, _≤_}
 use lib.ListN.{length, take, drop, getD}
 use Rattle.text.specs.Byte.{Bytes}
-use Rattle.lines.specs.Line.{LF, NoLF}
+use Rattle.lines.specs.Line.{LF, NoLF, endedLine}
+use Rattle.registry.specs.Entry.{ownerSize}
 use Rattle.cell.specs.Layout.{Words, width}
 use Rattle.plain.specs.declared.Entry.{Entry}
 use Rattle.plain.specs.Rows.{Rules, rulesOf, headerRows, maxDetails}
-use Rattle.plain.specs.Loader.{Scan, scan, takesRows, scanTo, scanEvents, entryOf}
+use Rattle.plain.specs.Loader.{Scan, scan, takesRows, stepLine, scanTo, scanEvents, entryOf}
 use Rattle.plain.specs.Call.{byteLimit}
 use Rattle.plain.specs.Promise.{keptLimit, cutScan, detailsIn}
 use Rattle.records.specs.declared.Progress.{Progress}
-use Rattle.records.specs.Answer.{rowsOf, Sized}
+use Rattle.records.specs.Answer.{rowsOf, oneMore, Sized}
 use Rattle.units.specs.declared.Unit.{Unit as KeptUnit}
+use Rattle.units.specs.declared.Unit.the-variants.{Takes}
+use Rattle.units.specs.declared.Said.the-variants.{Nothing}
 use Rattle.units.specs.declared.Stepped.{Stepped}
 use Rattle.units.specs.Answer.{unitOf, told, Tells}
 use Rattle.pieces.specs.declared.rows.RowsRead.{RowsRead}
@@ -54,16 +58,40 @@ pub record Holds (kept : Bytes) (held lines : ℕ) (unit : KeptUnit) (id sender 
   pub details : detailsIn (unitOf unit id sender words) ≤ maxDetails
   pub fits : lines + left ≤ byteLimit
 
--- a record with k detail rows
-abbrev pub readTo : Progress → ℕ → ℕ → ℕ → RowsRead
-readTo p k lines at =
-    record {
-      progress = record { read = headerRows + k; due = p .due; day = p .day; channel = p .channel };
-      lines = lines;
-      at = at;
-    }
+-- a record with so many rows read behind row one, and with k detail rows
+abbrev pub withRead : Progress → ℕ → Progress
+withRead p read = record { read = read; due = p .due; day = p .day; channel = p .channel }
 
--- detail rows read from a place on, none of them the day's last: nothing is said
+abbrev pub rowsTo : Progress → ℕ → ℕ → ℕ → RowsRead
+rowsTo p read lines at = record { progress = withRead p read; lines = lines; at = at }
+
+abbrev pub readTo : Progress → ℕ → ℕ → ℕ → RowsRead
+readTo p k lines at = rowsTo p (headerRows + k) lines at
+
+-- a header row: one that passes is the step of its line, any other leaves the lent parts as they were
+pub record HeaderRead (p : Progress) (raw : Bytes) (r : Bool) (sender : Bytes) (words : Words) (sender' : Bytes) (words' : Words) : Type 0 where
+  pub senderSized : length sender' ≡ ownerSize
+  pub wordsSized : length words' ≡ width
+  pub passes : r ≡ true → (reg id : Bytes) (first n : ℕ)
+      → stepLine (rulesOf reg) n (endedLine raw) (takesRows first (rowsOf p id sender words))
+      ≡ record { unit = takesRows first (rowsOf (oneMore p) id sender' words'); events = [] }
+  pub stays : r ≡ false → (sender' ≡ sender) × (words' ≡ words)
+
+-- rows read from a place on, with what they leave of Sender and words: nothing is said
+pub record HeadersRan (p : Progress) (lines : ℕ) (piece : Bytes) (at : ℕ) (sender : Bytes) (before : Words) (r : RowsRead) (sender' : Bytes) (after : Words)
+    : Type 0 where
+  pub behind : at ≤ r .at
+  pub within : r .at ≤ length piece
+  pub senderSized : length sender' ≡ ownerSize
+  pub sized : length after ≡ width
+  pub fits : r .lines + (length piece - r .at) ≤ byteLimit
+  pub reaches : (reg id : Bytes) (first : ℕ)
+      → scanTo (rulesOf reg) (scan [] lines (takesRows first (rowsOf p id sender before))) (between at (r .at) piece)
+      ≡ scan [] (r .lines) (takesRows first (rowsOf (r .progress) id sender' after))
+  pub quiet : (reg id : Bytes) (first : ℕ)
+      → scanEvents (rulesOf reg) (scan [] lines (takesRows first (rowsOf p id sender before))) (between at (r .at) piece) ≡ []
+
+-- detail rows likewise, none of them the day's last: they ask nothing of the Sender
 pub record RowsRan (p : Progress) (lines : ℕ) (piece : Bytes) (at : ℕ) (before : Words) (r : RowsRead) (after : Words) : Type 0 where
   pub behind : at ≤ r .at
   pub within : r .at ≤ length piece
@@ -79,6 +107,10 @@ pub record RowsRan (p : Progress) (lines : ℕ) (piece : Bytes) (at : ℕ) (befo
 -- behind a line that was read up to the LF at `end`
 abbrev pub movedTo : Stepped → ℕ → ℕ → Moved
 movedTo s lines end = record { unit = s .unit; lines = suc lines; held = 0; at = suc end; first = s .first; second = s .second }
+
+-- behind rows that were read, after which a further one is due
+abbrev pub movedBehind : ℕ → RowsRead → Moved
+movedBehind first r = record { unit = Takes first (r .progress); lines = r .lines; held = 0; at = r .at; first = Nothing; second = Nothing }
 
 abbrev pub toldIn : Moved → List Entry
 toldIn m = told (m .first) ++ told (m .second)

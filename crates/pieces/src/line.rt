@@ -11,9 +11,11 @@ ghost use Rattle.plain.specs.Promise.{detailsIn};
 ghost use Rattle.records.specs.Answer.{rowsOf, Sized, Few, Indexed};
 ghost use Rattle.units.specs.declared.Unit.the-variants.{Takes};
 ghost use Rattle.units.specs.Answer.{unitOf, toldBy, Does, HasRoom};
-ghost use Rattle.pieces.specs.Ran.{scanOf, Holds, movedTo, Moves};
+ghost use Rattle.pieces.specs.Ran.{scanOf, Holds, movedTo, movedBehind, Moves};
 use crate::end::line_end;
 use crate::keep::keep;
+use crate::rows::RowsRead;
+use crate::rows::read_headers;
 use crate::rows::read_rows;
 use direct::Direct;
 use direct::read_direct;
@@ -89,6 +91,21 @@ fn behind_line(s: Stepped, lines: u32, end: usize) -> Moved
         at: end + 1,
         first,
         second,
+    }
+}
+
+// Behind rows that were read, after which a further one is due.
+fn behind_rows(first: u32, r: RowsRead) -> Moved
+    ensures { λ m. ⌜ m ≡ movedBehind first r ⌝ }
+{
+    let p = r.progress;
+    Moved {
+        unit: Unit::Takes(first, p),
+        lines: r.lines,
+        held: 0,
+        at: r.at,
+        first: Said::Nothing,
+        second: Said::Nothing,
     }
 }
 
@@ -241,19 +258,73 @@ fn detail_lines(
     let r = read_rows(p, lines, piece, at, words);
     let q = r.progress;
     if r.at == piece.len() {
-        return Moved {
-            unit: Unit::Takes(first, q),
-            lines: r.lines,
-            held: 0,
-            at: r.at,
-            first: Said::Nothing,
-            second: Said::Nothing,
-        };
+        return behind_rows(first, r);
     }
     last_row(
         first,
         q,
         r.lines,
+        piece,
+        r.at,
+        registry,
+        meters,
+        owners,
+        known,
+        kept,
+        id,
+        sender,
+        words,
+        table,
+    )
+}
+
+// The rows of a record, header rows first. A header row that does not pass is read as any line is.
+fn record_lines(
+    first: u32,
+    p: Progress,
+    lines: u32,
+    piece: &[u8],
+    at: usize,
+    registry: &[u8],
+    meters: &[usize],
+    owners: &[usize],
+    known: Known,
+    kept: &mut [u8],
+    id: &mut [u8],
+    sender: &mut [u8],
+    words: &mut [u32],
+    table: &mut [u32],
+) -> Moved
+    requires { ⌜ Indexed (now registry) (now meters) (now owners) known × HasRoom known (now table) × Holds (now kept) 0 lines (Takes first p) (now id) (now sender) (now words) (length (now piece) - at) × (at < length (now piece)) ⌝ }
+    ensures { λ r. ⌜ Moves (now (registry .entry)) (scanOf (now (kept .entry)) 0 lines (Takes first p) (now (id .entry)) (now (sender .entry)) (now (words .entry))) (now (piece .entry)) at r (now (kept .exit)) (now (id .exit)) (now (sender .exit)) (now (words .exit)) (now (table .entry)) (now (table .exit)) ⌝ }
+{
+    let r = read_headers(p, lines, piece, at, sender, words);
+    let q = r.progress;
+    if r.at == piece.len() {
+        return behind_rows(first, r);
+    }
+    if HEADER_ROWS <= q.read {
+        return detail_lines(
+            first,
+            q,
+            r.lines,
+            piece,
+            r.at,
+            registry,
+            meters,
+            owners,
+            known,
+            kept,
+            id,
+            sender,
+            words,
+            table,
+        );
+    }
+    plain_line(
+        Unit::Takes(first, q),
+        r.lines,
+        0,
         piece,
         r.at,
         registry,
@@ -290,24 +361,22 @@ pub fn next_line(
 {
     if held == 0 {
         if let Unit::Takes(first, p) = unit {
-            if HEADER_ROWS <= p.read {
-                return detail_lines(
-                    first,
-                    p,
-                    lines,
-                    piece,
-                    at,
-                    registry,
-                    meters,
-                    owners,
-                    known,
-                    kept,
-                    id,
-                    sender,
-                    words,
-                    table,
-                );
-            }
+            return record_lines(
+                first,
+                p,
+                lines,
+                piece,
+                at,
+                registry,
+                meters,
+                owners,
+                known,
+                kept,
+                id,
+                sender,
+                words,
+                table,
+            );
         }
     }
     plain_line(

@@ -56,6 +56,21 @@ fn goes_on(at: usize, len: usize, count: usize) -> bool
     (at < len) & (count + 2 <= BATCH_SIZE)
 }
 
+// A record that waits leaves its meter as the one to try first: files are mostly in order of their meters, so that the next record has it too.
+fn hinted(known: Known, unit: Unit) -> Known
+    ensures { λ r. ⌜ (r .count ≡ known .count) × (r .window ≡ known .window) ⌝ }
+{
+    if let Unit::Waits(_, _, ready) = unit {
+        let window = known.window;
+        return Known {
+            count: known.count,
+            window,
+            hint: ready.meter as usize,
+        };
+    }
+    known
+}
+
 // Lines from a place of the piece on, as long as the batch has room.
 pub fn read_lines(
     unit: Unit,
@@ -77,6 +92,7 @@ pub fn read_lines(
     requires { ⌜ Indexed (now registry) (now meters) (now owners) known × HasRoom known (now table) × Holds (now kept) held lines unit (now id) (now sender) (now words) (length (now piece) - at) × (at ≤ length (now piece)) × (length (now out) ≡ batchWords) ⌝ }
     ensures { λ r. ⌜ Runs (now (registry .entry)) (scanOf (now (kept .entry)) held lines unit (now (id .entry)) (now (sender .entry)) (now (words .entry))) (now (piece .entry)) at r (now (kept .exit)) (now (id .exit)) (now (sender .exit)) (now (words .exit)) (now (table .entry)) (now (table .exit)) (now (out .exit)) ⌝ }
 {
+    let mut k = known;
     let mut u = unit;
     let mut n = lines;
     let mut h = held;
@@ -92,7 +108,7 @@ pub fn read_lines(
             registry,
             meters,
             owners,
-            known,
+            k,
             kept,
             id,
             sender,
@@ -104,6 +120,7 @@ pub fn read_lines(
         let next = m.unit;
         count = put(out, count, first);
         count = put(out, count, second);
+        k = hinted(k, next);
         u = next;
         n = m.lines;
         h = m.held;

@@ -1,25 +1,23 @@
 -- The rules of every registry are lawful: all that `Lawful` asks of them holds.
 -- Assumes nothing.
-use mathlib.Core.Path.{_≡_, refl, ap, _∙_}
+use mathlib.Core.Path.{_≡_, refl, _∙_}
 use mathlib.Core.List.{List, [], _∷_}
 use mathlib.Core.Logic.{_⊎_, inl, inr}
-use mathlib.Core.Bool.{Bool, true, false, cond, _&&_}
+use mathlib.Core.Bool.{Bool, true, false, cond}
 use Prim.Native.Nat.{ℕ, zero, suc, _+_, _-_, _*_, _<_, _≤_}
 use native.Mathlib.Omega.{arith}
-use lib.Dec.{eqb, leb, ltb}
+use lib.Dec.{eqb, ltb}
 use lib.ListN.{length, set, length-set}
 use lib.Seq.{getD-set-other}
-use borrow.Author.Tests.{ltb-true, leb-true, lt-ltb, ne-eqb}
-use Rattle.calendar.specs.Date.{isDate}
-use Rattle.calendar.specs.Day.{dayNumber}
+use borrow.Author.Tests.{ltb-true, lt-ltb, ne-eqb}
 use Rattle.calendar.specs.Intervals.{intervalsOn}
 use Rattle.calendar.proofs.Laws.{intervals-three}
-use Rattle.text.specs.Byte.{Bytes, equals}
-use Rattle.text.proofs.Truth.{and-left, and-right, and-both}
+use Rattle.text.specs.Byte.{Bytes}
+use Rattle.text.proofs.Truth.{and-both}
 use Rattle.lines.specs.Line.{Line, isLong}
-use Rattle.lines.specs.Outcome.{Outcome, passed, refused, require, _>>=_}
+use Rattle.lines.specs.Outcome.{Outcome, passed, refused, _>>=_}
 use Rattle.lines.specs.Row.{fieldsOf}
-use Rattle.lines.specs.Verdict.{long, wrongCode, notOwner, outsideWindow}
+use Rattle.lines.specs.Verdict.{long, wrongCode}
 use Rattle.headers.specs.One.{rowOne}
 use Rattle.headers.specs.Two.{rowTwo}
 use Rattle.headers.specs.Three.{rowThree}
@@ -30,26 +28,21 @@ use Rattle.headers.specs.declared.one.Channel.the-variants.{Load, Generation}
 use Rattle.headers.specs.declared.time.Stamp.{Stamp}
 use Rattle.details.specs.Detail.{perRow, rowDetail}
 use Rattle.details.specs.declared.detail.Interval.{Interval}
-use Rattle.registry.specs.Registry.{metersOf, windowIs}
-use Rattle.registry.specs.Index.{meterAt, findMeter}
-use Rattle.registry.specs.declared.entry.Window.{Window}
-use Rattle.registry.specs.declared.Found.{Found}
-use Rattle.registry.specs.declared.Found.the-variants.{At, Unknown}
-use Rattle.registry.proofs.Halves.{found-meter}
 use Rattle.cell.specs.Layout.{Words, width, countAt, dateAt, clockAt, valuesAt, maxIntervals}
 use Rattle.cell.specs.Load.{holdsNone}
 use Rattle.cell.specs.Marks.{markWord, withMark}
 use Rattle.cell.specs.Read.{cleared, begun, withStamp, markedIf, withInterval, withIntervals}
-use Rattle.checks.specs.Check.{inWindow, flagChecks, dayIn, meterChecks, ofMeter, byMeter, judge}
+use Rattle.checks.specs.Check.{judge}
 use Rattle.checks.specs.declared.Judgement.{Judgement}
 use Rattle.checks.specs.declared.Judgement.the-variants.{Passed, Refused}
 use Rattle.cells.specs.Number.{channels, channelNumber}
 use Rattle.cells.specs.Address.{meterCount, dayCount, cellsOf, isAddress, cellOf}
+use Rattle.checks.proofs.Passed.{judged-within}
 use Rattle.cells.proofs.Numbers.{number-below}
+use Rattle.cells.proofs.Passed.{address-among}
 use Rattle.plain.specs.Rows.{Rows, Row, refusedWith, goesOn, headerRows, maxDetails, orElse, begins, firstRow, withRow}
 use Rattle.plain.specs.Rows.{byJudgement, checked, afterDetail, detailRow, dueRow, nextRow, rulesOf}
 use Rattle.plain.proofs.Lawful.{GoodRows, GoodRow, Lawful}
-use Rattle.lines.proofs.Passing.{then-passed, require-passed}
 
 -- ---- THE WORDS of a read that is being built are as many as a cell has, and word 0 is not 0: row one gives it, later rows leave it.
 
@@ -102,53 +95,13 @@ unfolding channelNumber
 channel-below Load = omega arith
 channel-below Generation = omega arith
 
-and-three : (a b c : Bool) → (a && b && c) ≡ true → (a ≡ true) × (b ≡ true) × (c ≡ true)
-and-three a b c h =
-    let ab : (a && b) ≡ true = and-left (a && b) c h in
-    (and-left a b ab, and-right a b ab, and-right (a && b) c h)
-
-day-below : (w : Window) (date d : ℕ) → dayIn w date ≡ passed d → d < w .days
-unfolding dayIn inWindow
-day-below w date d e =
-    let p = then-passed (require (inWindow w date) outsideWindow) d (passed (dayNumber date - w .first)) e in
-    let inside =
-    and-three (isDate date) (leb (w .first) (dayNumber date)) (ltb (dayNumber date) (w .first + w .days))
-    (require-passed (inWindow w date) outsideWindow (p .0) (p .1)) in
-    let q : _≡_ {A = Outcome ℕ} (passed (dayNumber date - w .first)) (passed d) = p .2 in
-    let is : dayNumber date - w .first ≡ d = cc in
-    omega (arith, leb-true (w .first) (dayNumber date) (inside .1), ltb-true (dayNumber date) (w .first + w .days) (inside .2))
-
-module _ (reg id sender : Bytes) (date m d : ℕ) where
-  -- the meter is found, and its checks give the window day
-  abbrev Judged : Type 0
-  Judged = (findMeter id (metersOf reg) ≡ At m) × (meterChecks (windowIs reg) (meterAt reg m) sender date ≡ passed d)
-
-  judged : judge reg id sender date ≡ Passed m d → Judged
-  unfolding judge
-  judged = by-found (findMeter id (metersOf reg)) refl
-    where
-      by-checks : (n : ℕ) (o : Outcome ℕ) → findMeter id (metersOf reg) ≡ At n
-          → meterChecks (windowIs reg) (meterAt reg n) sender date ≡ o → ofMeter n o ≡ Passed m d → Judged
-      by-checks n (passed x) f q e =
-          let a : n ≡ m = cc in
-          let b : x ≡ d = cc in
-          (f ∙ ap At a, rw (← a, ← b) q)
-      by-checks n (refused v) f q e = absurd (let z : _≡_ {A = ℕ} 0 1 = cc in omega arith)
-
-      by-found : (f : Found) → findMeter id (metersOf reg) ≡ f → byMeter f reg sender date ≡ Passed m d → Judged
-      by-found Unknown f e = absurd (let z : _≡_ {A = ℕ} 0 1 = cc in omega arith)
-      by-found (At n) f e = by-checks n (meterChecks (windowIs reg) (meterAt reg n) sender date) f refl e
-
-  judged-address : (c : Channel) → judge reg id sender date ≡ Passed m d → isAddress reg m (channelNumber c) d ≡ true
-  unfolding isAddress meterChecks
-  judged-address c e =
-      let j : Judged = judged e in
-      let owner = then-passed (require (equals (meterAt reg m .owner) sender) notOwner) d _ (j .1) in
-      let flags = then-passed (flagChecks (meterAt reg m .flags)) d (dayIn (windowIs reg) date) (owner .2) in
-      and-both _ _
-      (and-both _ _ (lt-ltb m (meterCount reg) (found-meter id (metersOf reg) m (j .0) .0))
-      (lt-ltb (channelNumber c) channels (channel-below c)))
-      (lt-ltb d (dayCount reg) (day-below (windowIs reg) date d (flags .2)))
+judged-address : (reg id sender : Bytes) (date m d : ℕ) (c : Channel) → judge reg id sender date ≡ Passed m d → isAddress reg m (channelNumber c) d ≡ true
+unfolding isAddress
+judged-address reg id sender date m d c e =
+    let within = judged-within reg id sender date m d e in
+    and-both _ _
+    (and-both _ _ (lt-ltb m (meterCount reg) (within .0)) (lt-ltb (channelNumber c) channels (channel-below c)))
+    (lt-ltb d (dayCount reg) (within .1))
 
 -- ---- A LONG LINE is refused before anything else is asked of it.
 
@@ -229,15 +182,7 @@ module _ (reg : Bytes) where
   long-due (suc (suc (suc (suc k)))) rows l h = rw (long-row _ _ l _ h)
 
   address-below : (m c d : ℕ) → isAddress reg m c d ≡ true → cellOf reg m c d < cellsOf reg
-  unfolding isAddress
-  address-below m c d h =
-      let all = and-three (ltb m (meterCount reg)) (ltb c channels) (ltb d (dayCount reg)) h in
-      number-below (meterCount reg) (dayCount reg) m c d
-      (record {
-        meter = ltb-true m (meterCount reg) (all .0);
-        channel = ltb-true c channels (all .1);
-        day = ltb-true d (dayCount reg) (all .2);
-      })
+  address-below m c d h = number-below (meterCount reg) (dayCount reg) m c d (address-among reg m c d h)
 
   pub lawful : Lawful (rulesOf reg)
   unfolding rulesOf nextRow firstRow rowOne

@@ -52,10 +52,10 @@ use Rattle.checks.specs.declared.Judgement.{Judgement}
 use Rattle.checks.specs.declared.Judgement.the-variants.{Passed as JudgedFor, Refused as JudgedNot}
 use Rattle.plain.specs.Rows.{Rows, Row, refusedWith, goesOn, complete, headerRows, maxDetails, orElse, begins, firstRow, withRow}
 use Rattle.plain.specs.Rows.{twoRow, threeRow, fourRow, thirtyRow, byJudgement, checked, afterDetail, detailRow, dueRow, nextRow}
-use Rattle.records.specs.Answer.{rowsOf, recordOf, rowSays, oneMore, Sized}
+use Rattle.records.specs.Answer.{rowsOf, recordOf, rowSays, unlessOn, oneMore, Sized}
 use Rattle.records.specs.declared.Progress.{Progress}
 use Rattle.records.specs.declared.RowRead.{RowRead}
-use Rattle.records.specs.declared.RowRead.the-variants.{GoesOn}
+use Rattle.records.specs.declared.RowRead.the-variants.{Refused, GoesOn, Complete}
 
 -- ---- ROW ONE
 
@@ -103,6 +103,30 @@ module _ (line : Bytes) (cr : Bool) (r : One) (e : oneSays r line ≡ rowOne (li
         leb-true (length text) esiIdSize (and-right some few (and-left (some && few) (every isAlnum text) is))
 
 -- ---- ROWS TWO, THREE, FOUR AND THIRTY
+
+-- what a row leaves that does not go on: two and three all, four the sender, thirty the words
+pub unless-on : (r : RowRead) (p : Progress) (P : Type 0) → r ≡ GoesOn p → unlessOn r P
+unfolding unlessOn
+unless-on r p P e = rw e tt
+
+module _ (sender : Bytes) (words : Words) where
+  pub unless-same : (r : RowRead) → unlessOn r ((sender ≡ sender) × (words ≡ words))
+  unfolding unlessOn
+  unless-same (Refused v m) = (refl, refl)
+  unless-same (GoesOn p) = tt
+  unless-same (Complete r) = (refl, refl)
+
+  pub unless-words : (r : RowRead) (words' : Words) → unlessOn r (words' ≡ words) → unlessOn r ((sender ≡ sender) × (words' ≡ words))
+  unfolding unlessOn
+  unless-words (Refused v m) words' h = (refl, h)
+  unless-words (GoesOn p) words' h = tt
+  unless-words (Complete r) words' h = (refl, h)
+
+  pub unless-sender : (r : RowRead) (sender' : Bytes) → unlessOn r (sender' ≡ sender) → unlessOn r ((sender' ≡ sender) × (words ≡ words))
+  unfolding unlessOn
+  unless-sender (Refused v m) sender' h = (h, refl)
+  unless-sender (GoesOn p) sender' h = tt
+  unless-sender (Complete r) sender' h = (h, refl)
 
 pub count-one : (p : Progress)
     → GoesOn (record { read = p .read + 1; due = p .due; day = p .day; channel = p .channel }) ≡ GoesOn (oneMore p)

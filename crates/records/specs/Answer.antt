@@ -45,6 +45,12 @@ rowSays (Refused verdict meter) day id sender words = refusedWith verdict meter 
 rowSays (GoesOn p) day id sender words = goesOn (rowsOf p id sender words)
 rowSays (Complete r) day id sender words = complete (recordOf r words)
 
+-- what holds of an answer, unless a further row is due
+unfoldable pub unlessOn : RowRead → Type 0 → Type 0
+unlessOn (Refused verdict meter) P = P
+unlessOn (GoesOn p) P = Unit {0}
+unlessOn (Complete r) P = P
+
 -- one row more
 abbrev pub oneMore : Progress → Progress
 oneMore p = record { read = suc (p .read); due = p .due; day = p .day; channel = p .channel }

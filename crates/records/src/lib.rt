@@ -17,7 +17,7 @@ ghost use Rattle.registry.specs.Entry.{ownerSize};
 ghost use Rattle.cell.specs.Layout.{Words, width};
 ghost use Rattle.cell.specs.Read.{withIntervals};
 ghost use Rattle.plain.specs.Rows.{headerRows, maxDetails, orElse, goesOn, begins, firstRow, withRow, fourRow, thirtyRow, checked, afterDetail, nextRow};
-ghost use Rattle.records.specs.Answer.{rowsOf, rowSays, oneMore, Sized, Few, Indexed};
+ghost use Rattle.records.specs.Answer.{rowsOf, rowSays, unlessOn, oneMore, Sized, Few, Indexed};
 ghost use Rattle.records.specs.declared.RowRead.the-variants.{GoesOn};
 use calendar::intervals_on;
 use cell::begin;
@@ -160,7 +160,7 @@ fn row_checked(p: Progress, r: Checked) -> RowRead
 
 fn row_four(p: Progress, line: &[u8], cr: bool, words: &mut [u32]) -> RowRead
     requires { ⌜ Few p × (length (now words) ≡ width) ⌝ }
-    ensures { λ r. ⌜ ((id sender : Bytes) → rowSays r (p .day) id sender (now (words .exit)) ≡ fourRow (rowsOf p id sender (now (words .entry))) (lineOf (now (line .entry)) cr)) × (length (now (words .exit)) ≡ width) ⌝ }
+    ensures { λ r. ⌜ ((id sender : Bytes) → rowSays r (p .day) id sender (now (words .exit)) ≡ fourRow (rowsOf p id sender (now (words .entry))) (lineOf (now (line .entry)) cr)) × (length (now (words .exit)) ≡ width) × unlessOn r (now (words .exit) ≡ now (words .entry)) ⌝ }
 {
     match read_four(line, cr) {
         Four::Refused(verdict) => RowRead::Refused(verdict, 0),
@@ -173,7 +173,7 @@ fn row_four(p: Progress, line: &[u8], cr: bool, words: &mut [u32]) -> RowRead
 
 fn row_thirty(p: Progress, line: &[u8], cr: bool, sender: &mut [u8]) -> RowRead
     requires { ⌜ Few p × (length (now sender) ≡ ownerSize) ⌝ }
-    ensures { λ r. ⌜ ((id : Bytes) (words : Words) → rowSays r (p .day) id (now (sender .exit)) words ≡ thirtyRow (rowsOf p id (now (sender .entry)) words) (lineOf (now (line .entry)) cr)) × (length (now (sender .exit)) ≡ ownerSize) ⌝ }
+    ensures { λ r. ⌜ ((id : Bytes) (words : Words) → rowSays r (p .day) id (now (sender .exit)) words ≡ thirtyRow (rowsOf p id (now (sender .entry)) words) (lineOf (now (line .entry)) cr)) × (length (now (sender .exit)) ≡ ownerSize) × unlessOn r (now (sender .exit) ≡ now (sender .entry)) ⌝ }
 {
     match read_thirty(line, cr) {
         Thirty::Refused(verdict) => RowRead::Refused(verdict, 0),
@@ -185,10 +185,16 @@ fn row_thirty(p: Progress, line: &[u8], cr: bool, sender: &mut [u8]) -> RowRead
     }
 }
 
-// Rows two, three, four and thirty, by how many were read behind row one.
-fn row_header(p: Progress, line: &[u8], cr: bool, sender: &mut [u8], words: &mut [u32]) -> RowRead
+// Rows two, three, four and thirty, by how many were read behind row one. One that is refused leaves what is lent as it was.
+pub fn row_header(
+    p: Progress,
+    line: &[u8],
+    cr: bool,
+    sender: &mut [u8],
+    words: &mut [u32],
+) -> RowRead
     requires { ⌜ (p .read < headerRows) × (length (now sender) ≡ ownerSize) × (length (now words) ≡ width) ⌝ }
-    ensures { λ r. ⌜ ((reg id : Bytes) → rowSays r (p .day) id (now (sender .exit)) (now (words .exit)) ≡ nextRow reg (rowsOf p id (now (sender .entry)) (now (words .entry))) (lineOf (now (line .entry)) cr)) × (length (now (sender .exit)) ≡ ownerSize) × (length (now (words .exit)) ≡ width) ⌝ }
+    ensures { λ r. ⌜ ((reg id : Bytes) → rowSays r (p .day) id (now (sender .exit)) (now (words .exit)) ≡ nextRow reg (rowsOf p id (now (sender .entry)) (now (words .entry))) (lineOf (now (line .entry)) cr)) × (length (now (sender .exit)) ≡ ownerSize) × (length (now (words .exit)) ≡ width) × unlessOn r ((now (sender .exit) ≡ now (sender .entry)) × (now (words .exit) ≡ now (words .entry))) ⌝ }
 {
     if p.read == 0 {
         return row_checked(p, read_two(line, cr));

@@ -1,24 +1,15 @@
--- Bytes that a loop fills: from the left with those of a text, from the right with the digits of a number.
+-- Bytes that a loop fills from the right with the digits of a number.
 -- Assumes nothing.
 use mathlib.Core.Path.{_≡_, sym, _∙_}
 use mathlib.Core.List.{_∷_, _++_, append-nil}
 use Prim.Native.Nat.{ℕ, suc, _+_, _-_, _/_, _%_, _<_, _≤_}
-use native.Mathlib.Numerals.{add-one}
 use native.Mathlib.Omega.{arith}
-use lib.ListN.{length, getD, set, take, drop, length-set}
-use lib.Seq.{take-suc, take-suc-set, take-all, drop-cons, drop-length, drop-set-lt, getD-set-same, append-snoc}
+use lib.ListN.{length, set, drop, length-set}
+use lib.Seq.{drop-cons, drop-length, drop-set-lt, getD-set-same, append-snoc}
 use Rattle.text.specs.Byte.{Bytes}
 use Rattle.text.specs.Number.{digitsOf}
 
--- THE COPY: one byte more, and all
-module _ (to text : Bytes) (i : ℕ) (inv : take i to ≡ take i text) (l : length to ≡ length text) where
-  pub copy-again : i < length to → take (i + 1) (set to i (getD text i 0)) ≡ take (i + 1) text
-  copy-again h = rw (add-one, take-suc-set to i (getD text i 0) h, inv) (sym (take-suc text i 0 (omega arith)))
-
-  pub copy-end : length to ≤ i → to ≡ text
-  copy-end h = sym (take-all i to h) ∙ inv ∙ take-all i text (omega arith)
-
--- THE DIGITS: i of them are to be put, those of `rest`, and the others stand behind. None is put, one more, all.
+-- i of them are to be put, those of `rest`, and the others stand behind. None is put, one more, all.
 pub digits-none : (to : Bytes) (n : ℕ) → digitsOf (length to) n ++ drop (length to) to ≡ digitsOf (length to) n
 digits-none to n = rw (drop-length to) (append-nil (digitsOf (length to) n))
 

@@ -2,13 +2,13 @@
 -- Assumes nothing.
 use mathlib.Core.Path.{_≡_, refl, sym, _∙_}
 use mathlib.Core.List.{[], _∷_, _++_}
-use mathlib.Core.Bool.{Bool, true, false, not, _&&_, and-true, and-assoc}
+use mathlib.Core.Bool.{Bool, true, _&&_, and-true, and-assoc}
 use Prim.Native.Nat.{ℕ, zero, suc, _+_, _-_, _<_, _≤_}
 use native.Mathlib.Omega.{arith}
 use native.Mathlib.Nat.{not-suc-le-zero, le-of-suc-le-suc}
 use lib.Dec.{eqb, leb}
 use lib.ListN.{length, take, drop, getD}
-use borrow.Author.Tests.{ne-eqb, leb-true, le-leb, not-true, not-false}
+use borrow.Author.Tests.{ne-eqb, leb-true, le-leb}
 use Rattle.text.specs.Byte.{Bytes, isDigit, isEmpty, every}
 use Rattle.text.proofs.Truth.{and-left, and-right, and-both}
 use Rattle.text.proofs.Left.{left-cons, left-none}
@@ -54,27 +54,13 @@ every-drop class zero s h = h
 every-drop class (suc n) [] h = h
 every-drop class (suc n) (b ∷ s) h = every-drop class n s (and-right (class b) (every class s) h)
 
--- the scan: a byte outside the class, one inside, the end
-module _ (class : ℕ → Bool) (s : Bytes) (i : ℕ) (inv : every class s ≡ every class (drop i s)) where
-  pub every-found : (r : Bool) → i < length s → r ≡ class (getD s i 0) → not r ≡ true → false ≡ every class s
-  unfolding every
-  every-found r h e t = sym (inv ∙ rw (left-cons s i h, sym e ∙ not-true r t))
-
-  pub every-again : (r : Bool) → i < length s → r ≡ class (getD s i 0) → not r ≡ false → every class s ≡ every class (drop (i + 1) s)
-  unfolding every
-  every-again r h e t = inv ∙ rw (left-cons s i h, sym e ∙ not-false r t)
-
-  pub every-last : length s ≤ i → true ≡ every class s
-  unfolding every
-  every-last h = sym (inv ∙ rw (left-none s i h))
-
 pub every-append : (class : ℕ → Bool) (a b : Bytes) → every class a ≡ true → every class b ≡ true → every class (a ++ b) ≡ true
 unfolding every
 every-append class [] b h g = g
 every-append class (x ∷ a) b h g =
     and-both (class x) (every class (a ++ b)) (and-left (class x) (every class a) h) (every-append class a b (and-right (class x) (every class a) h) g)
 
--- a scan that does not stop early: what it has found so far, and what is left
+-- the scan, which does not stop early: what it has found so far, and what is left
 module _ (class : ℕ → Bool) (s : Bytes) (i : ℕ) (ok : Bool) (inv : every class s ≡ (ok && every class (drop i s))) where
   pub every-step : (r : Bool) → i < length s → r ≡ class (getD s i 0) → every class s ≡ ((ok && r) && every class (drop (i + 1) s))
   unfolding every

@@ -2,12 +2,12 @@
 -- Assumes nothing.
 use mathlib.Core.Path.{_≡_, refl, ap, sym, _∙_}
 use mathlib.Core.List.{[], _∷_}
-use mathlib.Core.Bool.{Bool, true, false, _&&_}
+use mathlib.Core.Bool.{Bool, true, false, _&&_, and-true, and-assoc}
 use Prim.Native.Nat.{ℕ, suc, _+_, _<_, _≤_}
 use native.Mathlib.Omega.{arith}
 use lib.Dec.{eqb}
 use lib.ListN.{length, drop, getD}
-use borrow.Author.Tests.{eq-eqb, ne-eqb, eqb-true}
+use borrow.Author.Tests.{eq-eqb, eqb-true}
 use Rattle.text.specs.Byte.{Bytes, equals, startsWith}
 use Rattle.text.proofs.Truth.{apart, and-left, and-right}
 use Rattle.text.proofs.Left.{left-cons, left-none}
@@ -42,19 +42,17 @@ equals-longer (b ∷ s) (c ∷ t) h = and-false (eqb b c) (equals s t) (equals-l
 pub equals-lengths : (s t : Bytes) → (length s ≡ length t → ⊥) → false ≡ equals s t
 equals-lengths s t h = sym (equals-longer s t h)
 
--- the comparison at i: the bytes differ, are the same, or there are no more
-module _ (s t : Bytes) (i : ℕ) (inv : equals s t ≡ equals (drop i s) (drop i t)) (long : length s ≡ length t) where
-  pub equals-found : i < length s → (getD s i 0 ≡ getD t i 0 → ⊥) → false ≡ equals s t
+-- the comparison at i, which does not stop early: what it has found so far, and what is left
+module _ (s t : Bytes) (i : ℕ) (ok : Bool) (inv : equals s t ≡ (ok && equals (drop i s) (drop i t))) (long : length s ≡ length t) where
+  pub equals-step : i < length s → equals s t ≡ ((ok && eqb (getD s i 0) (getD t i 0)) && equals (drop (i + 1) s) (drop (i + 1) t))
   unfolding equals
-  equals-found h e = sym (inv ∙ rw (left-cons s i h, left-cons t i (omega arith), ne-eqb _ _ e))
+  equals-step h =
+      inv ∙ rw (left-cons s i h, left-cons t i (omega arith))
+      (sym (and-assoc ok (eqb (getD s i 0) (getD t i 0)) (equals (drop (i + 1) s) (drop (i + 1) t))))
 
-  pub equals-again : i < length s → getD s i 0 ≡ getD t i 0 → equals s t ≡ equals (drop (i + 1) s) (drop (i + 1) t)
+  pub equals-end : length s ≤ i → ok ≡ equals s t
   unfolding equals
-  equals-again h e = inv ∙ rw (left-cons s i h, left-cons t i (omega arith), eq-eqb _ _ e)
-
-  pub equals-last : length s ≤ i → true ≡ equals s t
-  unfolding equals
-  equals-last h = sym (inv ∙ rw (left-none s i h, left-none t i (omega arith)))
+  equals-end h = sym (inv ∙ rw (left-none s i h, left-none t i (omega arith)) (and-true ok))
 
 starts-shorter : (p s : Bytes) → length s < length p → startsWith p s ≡ false
 unfolding startsWith
@@ -72,15 +70,13 @@ starts-long (b ∷ p) [] h = absurd (apart h)
 starts-long (b ∷ p) (c ∷ s) h = omega (arith, starts-long p s (and-right (eqb c b) (startsWith p s) h))
 
 -- the beginning at i, likewise
-module _ (p s : Bytes) (i : ℕ) (inv : startsWith p s ≡ startsWith (drop i p) (drop i s)) (room : length p ≤ length s) where
-  pub starts-found : i < length p → (getD s i 0 ≡ getD p i 0 → ⊥) → false ≡ startsWith p s
+module _ (p s : Bytes) (i : ℕ) (ok : Bool) (inv : startsWith p s ≡ (ok && startsWith (drop i p) (drop i s))) (room : length p ≤ length s) where
+  pub starts-step : i < length p → startsWith p s ≡ ((ok && eqb (getD s i 0) (getD p i 0)) && startsWith (drop (i + 1) p) (drop (i + 1) s))
   unfolding startsWith
-  starts-found h e = sym (inv ∙ rw (left-cons p i h, left-cons s i (omega arith), ne-eqb _ _ e))
+  starts-step h =
+      inv ∙ rw (left-cons p i h, left-cons s i (omega arith))
+      (sym (and-assoc ok (eqb (getD s i 0) (getD p i 0)) (startsWith (drop (i + 1) p) (drop (i + 1) s))))
 
-  pub starts-again : i < length p → getD s i 0 ≡ getD p i 0 → startsWith p s ≡ startsWith (drop (i + 1) p) (drop (i + 1) s)
+  pub starts-end : length p ≤ i → ok ≡ startsWith p s
   unfolding startsWith
-  starts-again h e = inv ∙ rw (left-cons p i h, left-cons s i (omega arith), eq-eqb _ _ e)
-
-  pub starts-last : length p ≤ i → true ≡ startsWith p s
-  unfolding startsWith
-  starts-last h = sym (inv ∙ rw (left-none p i h))
+  starts-end h = sym (inv ∙ rw (left-none p i h) (and-true ok))

@@ -6,3 +6,4 @@ pub mod Equal
 pub mod Comma
 pub mod Decimal
 pub mod DigitsOf
+pub mod Copied

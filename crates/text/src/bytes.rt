@@ -1,5 +1,6 @@
-// Classes of bytes, and texts compared.
+// Classes of bytes, texts compared, and a text copied. A scan does not stop early, so that the compiler looks at many bytes at once.
 ghost use mathlib.Core.Path.{_≡_};
+ghost use lib.ListN.{length};
 ghost use Rattle.text.specs.Byte.{isDigit, isAlnum, isEmpty, every, equals, startsWith};
 
 pub fn is_digit(b: u8) -> bool
@@ -24,27 +25,25 @@ pub fn is_empty(f: &[u8]) -> bool
 pub fn all_digits(s: &[u8]) -> bool
     ensures { λ r. ⌜ r ≡ every isDigit (now (s .entry)) ⌝ }
 {
+    let mut ok = true;
     let mut i: usize = 0;
     while i < s.len() {
-        if !is_digit(s[i]) {
-            return false;
-        }
+        ok = ok & is_digit(s[i]);
         i += 1;
     }
-    true
+    ok
 }
 
 pub fn all_alnum(s: &[u8]) -> bool
     ensures { λ r. ⌜ r ≡ every isAlnum (now (s .entry)) ⌝ }
 {
+    let mut ok = true;
     let mut i: usize = 0;
     while i < s.len() {
-        if !is_alnum(s[i]) {
-            return false;
-        }
+        ok = ok & is_alnum(s[i]);
         i += 1;
     }
-    true
+    ok
 }
 
 pub fn same(a: &[u8], b: &[u8]) -> bool
@@ -53,14 +52,13 @@ pub fn same(a: &[u8], b: &[u8]) -> bool
     if a.len() != b.len() {
         return false;
     }
+    let mut ok = true;
     let mut i: usize = 0;
-    while i < a.len() {
-        if a[i] != b[i] {
-            return false;
-        }
+    while i < b.len() {
+        ok = ok & (a[i] == b[i]);
         i += 1;
     }
-    true
+    ok
 }
 
 // Whether s begins with p.
@@ -70,12 +68,23 @@ pub fn begins(s: &[u8], p: &[u8]) -> bool
     if s.len() < p.len() {
         return false;
     }
+    let mut ok = true;
     let mut i: usize = 0;
     while i < p.len() {
-        if s[i] != p[i] {
-            return false;
-        }
+        ok = ok & (s[i] == p[i]);
         i += 1;
     }
-    true
+    ok
+}
+
+// The bytes of a text, put in the place of as many others.
+pub fn copy(to: &mut [u8], text: &[u8])
+    requires { ⌜ length (now to) ≡ length (now text) ⌝ }
+    ensures { λ _. ⌜ now (to .exit) ≡ now (text .entry) ⌝ }
+{
+    let mut i: usize = 0;
+    while i < to.len() {
+        to[i] = text[i];
+        i += 1;
+    }
 }

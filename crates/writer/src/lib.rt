@@ -35,12 +35,12 @@ use registry::entry::Window;
 use registry::id_of;
 use registry::owner_of;
 use rowtext::detail::put_detail;
-use rowtext::put::copy;
 use rowtext::rows::put_four;
 use rowtext::rows::put_one;
 use rowtext::rows::put_thirty;
 use rowtext::rows::put_three;
 use rowtext::rows::put_two;
+use text::bytes::copy;
 use text::names::is_descriptor;
 
 // The longest record.

@@ -20,32 +20,23 @@ enum-told c = search needs
 returns : tie.Need-returns
 returns c = search needs
 
-add-has-commas : tie.Need-add-has-commas
-add-has-commas c = let h : c .before .v .given .0 .1 .0 ≤ valueSize = search value-short in omega arith
+add-behind : tie.Need-add-behind
+add-behind c = let h : c .before .v .given .0 .1 .0 ≤ valueSize = search value-short in omega arith
 
-has-commas-requires : tie.Need-has-commas-requires
-has-commas-requires c κs = let h : c .before .v .given .0 .1 .0 ≤ valueSize = search value-short in omega arith
+add-end : tie.Need-add-end
+add-end c = let h : c .before .v .given .0 .1 .0 ≤ valueSize = search value-short in omega arith
+
+four-requires : tie.Need-four-requires
+four-requires c κs = let h : c .before .v .given .0 .1 .0 ≤ valueSize = search value-short in omega arith
 
 returns-2 : tie.Need-returns-2
-returns-2 c = search needs
-
-add-s : tie.Need-add-s
-add-s c = let h : c .before .before .before .v .given .0 .1 .0 ≤ valueSize = search value-short in omega arith
-
-add-s-2 : tie.Need-add-s-2
-add-s-2 c = let h : c .before .before .before .v .given .0 .1 .0 ≤ valueSize = search value-short in omega arith
-
-shared-slice-read-s : tie.Need-shared-slice-read-s
-shared-slice-read-s c = let h : c .before .before .before .before .v .given .0 .1 .0 ≤ valueSize = search value-short in omega arith
+returns-2 c = search triple-read
 
 returns-3 : tie.Need-returns-3
 returns-3 c = search triple-read
 
 returns-4 : tie.Need-returns-4
-returns-4 c = search triple-read
-
-returns-5 : tie.Need-returns-5
-returns-5 c = search needs
+returns-4 c = search needs
 
 pub read-triple-spec : {M : Type 1} → statement M
 read-triple-spec =
@@ -55,12 +46,9 @@ read-triple-spec =
     enum-known-v
     enum-told
     returns
-    add-has-commas
-    has-commas-requires
+    add-behind
+    add-end
+    four-requires
     returns-2
-    add-s
-    add-s-2
-    shared-slice-read-s
     returns-3
-    returns-4
-    returns-5)
+    returns-4)

@@ -1,8 +1,10 @@
 -- `records::row_thirty` meets its contract.
 -- Assumes nothing.
+use mathlib.Core.Path.{refl}
 use native.Mathlib.Omega.{arith}
 use borrow.Author.Needs.{needs}
-use Rattle.records.proofs.Steps.{thirty-refused, thirty-put, thirty-fits}
+use Rattle.records.specs.Answer.{unlessOn}
+use Rattle.records.proofs.Steps.{unless-on, thirty-refused, thirty-put, thirty-fits}
 use Rattle.records.proofs.row_thirty.Statement.{statement}
 use Rattle.records.proofs.row_thirty.Tie as tie
 
@@ -25,13 +27,14 @@ counted-requires : tie.Need-counted-requires
 counted-requires c κs = search needs
 
 returns : tie.Need-returns
-returns c = (thirty-refused (c .before .before .before .before .before .before .args .p) _ _ _ (c .before .before .before .read-thirty .ensures) _ (c .before .verdict .given .1) _, (c .before .before .before .before .before .before .pre .1))
+unfolding unlessOn
+returns c = (thirty-refused (c .before .before .before .before .before .before .args .p) _ _ _ (c .before .before .before .read-thirty .ensures) _ (c .before .verdict .given .1) _, (c .before .before .before .before .before .before .pre .1), refl)
 
 same-length : tie.Need-same-length
 same-length c = search needs
 
 returns-2 : tie.Need-returns-2
-returns-2 c = (thirty-put (c .before .before .before .before .before .before .before .before .before .before .before .before .args .p) _ _ _ (c .before .before .before .before .before .before .before .before .before .read-thirty .ensures) _ (c .before .before .before .before .before .before .before .place .given .1) _ (c .before .before .before .before .before .text-at .ensures) _ _ _ (c .before .before .before .before .before .before .before .before .before .before .before .before .pre .1) (c .before .before .before .put-padded .ensures) (c .counted .ensures), search needs)
+returns-2 c = (thirty-put (c .before .before .before .before .before .before .before .before .before .before .before .before .args .p) _ _ _ (c .before .before .before .before .before .before .before .before .before .read-thirty .ensures) _ (c .before .before .before .before .before .before .before .place .given .1) _ (c .before .before .before .before .before .text-at .ensures) _ _ _ (c .before .before .before .before .before .before .before .before .before .before .before .before .pre .1) (c .before .before .before .put-padded .ensures) (c .counted .ensures), search needs, unless-on _ _ _ (c .counted .ensures))
 
 pub row-thirty-spec : {M : Type 1} → statement M
 row-thirty-spec =

@@ -1,12 +1,12 @@
 -- `cell::load::copy` meets its contract.
 -- Assumes nothing.
-use mathlib.Core.Path.{_≡_, refl}
+use mathlib.Core.Path.{_≡_, refl, sym, _∙_}
 use Prim.Native.Nat.{_≤_, _<_, _-_}
 use native.Mathlib.Omega.{arith}
 use lib.ListN.{length, take, length-set}
 use borrow.Author.Needs.{needs}
 use Rattle.cell.specs.Layout.{width}
-use Rattle.cell.proofs.Frame.{copy-again, copy-end}
+use Rattle.text.proofs.Copied.{copy-again, copy-end}
 use Rattle.cell.proofs.load.copy.Statement.{statement}
 use Rattle.cell.proofs.load.copy.Tie as tie
 
@@ -39,14 +39,16 @@ loop-less c = search needs
 
 loop-again : tie.Need-loop-again Inv-loop μ-loop
 loop-again c =
-    let l : c .before .before .loop .i < width = omega arith in
-    (omega arith, simp length-set (search needs), search copy-again)
+    let l : (c .before .before .loop .i) < length (c .before .before .loop .to) = omega (arith, (c .before .before .loop .inv .1)) in
+    (omega arith, simp length-set (search needs), copy-again _ _ _ (c .before .before .loop .inv .2) ((c .before .before .loop .inv .1) ∙ sym (c .before .before .before .pre .1)) l)
 
 same-length : tie.Need-same-length Inv-loop μ-loop
 same-length c = search needs
 
 returns : tie.Need-returns Inv-loop μ-loop
-returns c = search copy-end
+returns c =
+    let l : length (c .before .loop .to) ≤ (c .before .loop .i) = omega (arith, (c .before .loop .inv .1)) in
+    copy-end _ _ _ (c .before .loop .inv .2) ((c .before .loop .inv .1) ∙ sym (c .before .before .pre .1)) l
 
 pub copy-spec : {M : Type 1} → statement M
 copy-spec =

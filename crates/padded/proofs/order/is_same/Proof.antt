@@ -7,7 +7,7 @@ use native.Mathlib.Omega.{arith}
 use lib.ListN.{length, drop}
 use borrow.Author.Needs.{needs}
 use Rattle.text.specs.Byte.{equals}
-use Rattle.padded.proofs.Scan.{equals-step, equals-end}
+use Rattle.text.proofs.Equal.{equals-step, equals-end}
 use Rattle.padded.proofs.order.is_same.Statement.{statement}
 use Rattle.padded.proofs.order.is_same.Tie as tie
 

@@ -1,56 +1,49 @@
 -- `padded::padding::put_padded` meets its contract.
 -- Assumes nothing.
-use mathlib.Core.Path.{_≡_, refl}
-use Prim.Native.Nat.{_≤_, _-_}
-use native.Mathlib.Omega.{arith}
-use lib.ListN.{length, take, length-set}
+use mathlib.Core.Path.{sym}
+use lib.Seq.{length-take-le}
 use borrow.Author.Needs.{needs}
-use Rattle.padded.proofs.Put.{put-again, put-end}
+use Rattle.padded.proofs.Put.{padded-put}
 use Rattle.padded.proofs.padding.put_padded.Statement.{statement}
-use Rattle.padded.specs.Padding.{pad}
 use Rattle.padded.proofs.padding.put_padded.Tie as tie
 
-abbrev Inv-loop : tie.InvT-loop
-Inv-loop to₀ text i₀ to i = (i ≤ length to₀) × (length to ≡ length to₀) × (take i to ≡ take i (pad (length to₀) text))
+slice-relend-prefix-copy : tie.Need-slice-relend-prefix-copy
+slice-relend-prefix-copy c = search needs
 
-abbrev μ-loop : tie.MeasureT-loop
-μ-loop to₀ text i₀ to i = length to₀ - i
+slice-aggregate-copy : tie.Need-slice-aggregate-copy
+slice-aggregate-copy c = sym (length-take-le _ _ (c .before .before .before .pre))
 
-loop-holds : tie.Need-loop-holds Inv-loop μ-loop
-loop-holds c = (omega arith, search needs, refl)
+copy-requires : tie.Need-copy-requires
+copy-requires c κs = length-take-le _ _ (c .before .before .before .pre)
 
-byte-at-requires : tie.Need-byte-at-requires Inv-loop μ-loop
-byte-at-requires c κs = search needs
+sub-put-spaces : tie.Need-sub-put-spaces
+sub-put-spaces c = search needs
 
-slice-write-to : tie.Need-slice-write-to Inv-loop μ-loop
-slice-write-to c = search needs
+part-put-spaces-start : tie.Need-part-put-spaces-start
+part-put-spaces-start c = search needs
 
-add-i : tie.Need-add-i Inv-loop μ-loop
-add-i c = search needs
+part-put-spaces-end : tie.Need-part-put-spaces-end
+part-put-spaces-end c = search needs
 
-loop-less : tie.Need-loop-less Inv-loop μ-loop
-loop-less c = search needs
+put-spaces-requires : tie.Need-put-spaces-requires
+put-spaces-requires c κs = search needs
 
-loop-again : tie.Need-loop-again Inv-loop μ-loop
-loop-again c = (omega arith, simp length-set (search needs), search (put-again, needs))
-
-same-length : tie.Need-same-length Inv-loop μ-loop
+same-length : tie.Need-same-length
 same-length c = search needs
 
-returns : tie.Need-returns Inv-loop μ-loop
-returns c = search (put-end, needs)
+returns : tie.Need-returns
+returns c = padded-put _ _ _ _ (c .before .before .before .before .before .before .before .before .before .before .pre) (c .before .before .before .before .before .before .copy .ensures) (c .before .before .put-spaces .ensures)
 
 pub put-padded-spec : {M : Type 1} → statement M
 put-padded-spec =
     tie.close
     (tie.spec
-    Inv-loop
-    μ-loop
-    loop-holds
-    byte-at-requires
-    slice-write-to
-    add-i
-    loop-less
-    loop-again
+    slice-relend-prefix-copy
+    slice-aggregate-copy
+    copy-requires
+    sub-put-spaces
+    part-put-spaces-start
+    part-put-spaces-end
+    put-spaces-requires
     same-length
     returns)

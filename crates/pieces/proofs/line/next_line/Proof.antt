@@ -1,17 +1,15 @@
 -- `pieces::line::next_line` meets its contract.
 -- Assumes nothing.
-use mathlib.Core.Logic.{⊎-elim}
-use mathlib.Core.Path.{_≡_, sym, _∙_}
 use borrow.Author.Needs.{needs}
-use Rattle.pieces.proofs.Moving.{met-holds, met-moves, held-same, unit-same}
+use Rattle.pieces.proofs.Moving.{held-same, unit-same}
 use Rattle.pieces.proofs.line.next_line.Statement.{statement}
 use Rattle.pieces.proofs.line.next_line.Tie as tie
 
 enum-known-unit : tie.Need-enum-known-unit
 enum-known-unit c = search needs
 
-detail-lines-requires : tie.Need-detail-lines-requires
-detail-lines-requires c κs = ((c .before .before .before .before .before .before .before .before .before .before .before .before .before .before .before .before .before .before .before .before .pre .0), (c .before .before .before .before .before .before .before .before .before .before .before .before .before .before .before .before .before .before .before .before .pre .1), held-same _ _ _ _ _ _ _ _ _ ((c .before .before .before .before .before .before .before .before .before .before .if1 .taken)) ((c .before .before .before .before .before .before .before .before .unit .given .1)) ((c .before .before .before .before .before .before .before .before .before .before .before .before .before .before .before .before .before .before .before .before .pre .2)), (c .before .before .before .before .before .before .before .before .before .before .before .before .before .before .before .before .before .before .before .before .pre .3), (c .before .before .before .before .before .if2 .taken))
+record-lines-requires : tie.Need-record-lines-requires
+record-lines-requires c κs = ((c .before .before .before .before .before .before .before .before .before .before .before .before .before .before .before .before .before .before .pre .0), (c .before .before .before .before .before .before .before .before .before .before .before .before .before .before .before .before .before .before .pre .1), held-same _ _ _ _ _ _ _ _ _ (c .before .before .before .before .before .before .before .before .if1 .taken) (c .before .before .before .before .before .before .unit .given .1) (c .before .before .before .before .before .before .before .before .before .before .before .before .before .before .before .before .before .before .pre .2), (c .before .before .before .before .before .before .before .before .before .before .before .before .before .before .before .before .before .before .pre .3))
 
 same-length : tie.Need-same-length
 same-length c = search needs
@@ -29,10 +27,11 @@ same-length-5 : tie.Need-same-length-5
 same-length-5 c = search needs
 
 returns : tie.Need-returns
-returns c = unit-same ((c .before .before .before .before .before .before .before .before .before .before .before .before .before .before .before .before .before .before .before .before .before .before .before .before .before .before .before .before .before .before .before .args .registry .now)) ((c .before .before .before .before .before .before .before .before .before .before .before .before .before .before .before .before .before .before .before .before .before .before .before .before .before .before .before .before .before .before .before .args .kept .now)) ((c .before .before .before .before .before .before .before .before .before .before .before .before .before .before .before .before .before .before .before .before .before .before .before .before .before .before .before .before .before .before .before .args .held)) ((c .before .before .before .before .before .before .before .before .before .before .before .before .before .before .before .before .before .before .before .before .before .before .before .before .before .before .before .before .before .before .before .args .lines)) ((c .before .before .before .before .before .before .before .before .before .before .before .before .before .before .before .before .before .before .before .before .before .before .before .before .before .before .before .before .before .before .before .args .unit)) _ ((c .before .before .before .before .before .before .before .before .before .before .before .before .before .before .before .before .before .before .before .before .before .before .before .before .before .before .before .before .before .before .before .args .id .now)) ((c .before .before .before .before .before .before .before .before .before .before .before .before .before .before .before .before .before .before .before .before .before .before .before .before .before .before .before .before .before .before .before .args .sender .now)) ((c .before .before .before .before .before .before .before .before .before .before .before .before .before .before .before .before .before .before .before .before .before .before .before .before .before .before .before .before .before .before .before .args .words .now)) ((c .before .before .before .before .before .before .before .before .before .before .before .before .before .before .before .before .before .before .before .before .before .before .before .before .before .before .before .before .before .before .before .args .piece .now)) ((c .before .before .before .before .before .before .before .before .before .before .before .before .before .before .before .before .before .before .before .before .before .before .before .before .before .before .before .before .before .before .before .args .at)) ((c .before .before .before .before .before .before .before .before .before .before .detail-lines .result)) _ _ _ _ ((c .before .before .before .before .before .before .before .before .before .before .before .before .before .before .before .before .before .before .before .before .before .before .before .before .before .before .before .before .before .before .before .args .table .now)) _ ((c .before .before .before .before .before .before .before .before .before .before .before .before .before .before .before .before .before .before .before .before .before .if1 .taken)) ((c .before .before .before .before .before .before .before .before .before .before .before .before .before .before .before .before .before .before .before .unit .given .1)) ((c .before .before .before .before .before .before .before .before .before .before .detail-lines .ensures))
+returns c =
+    unit-same (c .before .before .before .before .before .before .before .before .before .before .before .before .before .before .before .before .before .before .before .before .before .before .before .before .before .before .before .before .before .args .registry .now) (c .before .before .before .before .before .before .before .before .before .before .before .before .before .before .before .before .before .before .before .before .before .before .before .before .before .before .before .before .before .args .kept .now) (c .before .before .before .before .before .before .before .before .before .before .before .before .before .before .before .before .before .before .before .before .before .before .before .before .before .before .before .before .before .args .held) (c .before .before .before .before .before .before .before .before .before .before .before .before .before .before .before .before .before .before .before .before .before .before .before .before .before .before .before .before .before .args .lines) (c .before .before .before .before .before .before .before .before .before .before .before .before .before .before .before .before .before .before .before .before .before .before .before .before .before .before .before .before .before .args .unit) _ (c .before .before .before .before .before .before .before .before .before .before .before .before .before .before .before .before .before .before .before .before .before .before .before .before .before .before .before .before .before .args .id .now) (c .before .before .before .before .before .before .before .before .before .before .before .before .before .before .before .before .before .before .before .before .before .before .before .before .before .before .before .before .before .args .sender .now) (c .before .before .before .before .before .before .before .before .before .before .before .before .before .before .before .before .before .before .before .before .before .before .before .before .before .before .before .before .before .args .words .now) (c .before .before .before .before .before .before .before .before .before .before .before .before .before .before .before .before .before .before .before .before .before .before .before .before .before .before .before .before .before .args .piece .now) (c .before .before .before .before .before .before .before .before .before .before .before .before .before .before .before .before .before .before .before .before .before .before .before .before .before .before .before .before .before .args .at) (c .before .before .before .before .before .before .before .before .before .before .record-lines .result) _ _ _ _ (c .before .before .before .before .before .before .before .before .before .before .before .before .before .before .before .before .before .before .before .before .before .before .before .before .before .before .before .before .before .args .table .now) _ (c .before .before .before .before .before .before .before .before .before .before .before .before .before .before .before .before .before .before .before .if1 .taken) (c .before .before .before .before .before .before .before .before .before .before .before .before .before .before .before .before .before .unit .given .1) (c .before .before .before .before .before .before .before .before .before .before .record-lines .ensures)
 
 plain-line-requires : tie.Need-plain-line-requires
-plain-line-requires c κs = let same : (c .before .before .before .before .before .if1 .unit) ≡ (c .before .before .before .before .before .before .before .before .before .before .before .before .before .before .before .args .unit) = ⊎-elim (λ w. w .6 ∙ sym (w .2 .given .1)) (⊎-elim (λ w. w .2) (λ w. w .1)) ((c .before .before .before .before .before .if1 .came)) in ((c .before .before .before .before .before .before .before .before .before .before .before .before .before .before .before .pre .0), (c .before .before .before .before .before .before .before .before .before .before .before .before .before .before .before .pre .1), met-holds _ _ _ _ _ _ _ _ same _ ((c .before .before .before .before .before .before .before .before .before .before .before .before .before .before .before .pre .2)), (c .before .before .before .before .before .before .before .before .before .before .before .before .before .before .before .pre .3))
+plain-line-requires c κs = search needs
 
 same-length-6 : tie.Need-same-length-6
 same-length-6 c = search needs
@@ -50,14 +49,14 @@ same-length-10 : tie.Need-same-length-10
 same-length-10 c = search needs
 
 returns-2 : tie.Need-returns-2
-returns-2 c = let same : (c .before .before .before .before .before .before .before .before .before .before .before .before .before .before .before .before .if1 .unit) ≡ (c .before .before .before .before .before .before .before .before .before .before .before .before .before .before .before .before .before .before .before .before .before .before .before .before .before .before .args .unit) = ⊎-elim (λ w. w .6 ∙ sym (w .2 .given .1)) (⊎-elim (λ w. w .2) (λ w. w .1)) ((c .before .before .before .before .before .before .before .before .before .before .before .before .before .before .before .before .if1 .came)) in met-moves ((c .before .before .before .before .before .before .before .before .before .before .before .before .before .before .before .before .before .before .before .before .before .before .before .before .before .before .args .kept .now)) ((c .before .before .before .before .before .before .before .before .before .before .before .before .before .before .before .before .before .before .before .before .before .before .before .before .before .before .args .held)) ((c .before .before .before .before .before .before .before .before .before .before .before .before .before .before .before .before .before .before .before .before .before .before .before .before .before .before .args .lines)) _ _ ((c .before .before .before .before .before .before .before .before .before .before .before .before .before .before .before .before .before .before .before .before .before .before .before .before .before .before .args .id .now)) ((c .before .before .before .before .before .before .before .before .before .before .before .before .before .before .before .before .before .before .before .before .before .before .before .before .before .before .args .sender .now)) ((c .before .before .before .before .before .before .before .before .before .before .before .before .before .before .before .before .before .before .before .before .before .before .before .before .before .before .args .words .now)) same ((c .before .before .before .before .before .before .before .before .before .before .before .before .before .before .before .before .before .before .before .before .before .before .before .before .before .before .args .registry .now)) ((c .before .before .before .before .before .before .before .before .before .before .before .before .before .before .before .before .before .before .before .before .before .before .before .before .before .before .args .piece .now)) ((c .before .before .before .before .before .before .before .before .before .before .before .before .before .before .before .before .before .before .before .before .before .before .before .before .before .before .args .at)) ((c .before .before .before .before .before .before .before .before .before .before .plain-line .result)) _ _ _ _ ((c .before .before .before .before .before .before .before .before .before .before .before .before .before .before .before .before .before .before .before .before .before .before .before .before .before .before .args .table .now)) _ ((c .before .before .before .before .before .before .before .before .before .before .plain-line .ensures))
+returns-2 c = search needs
 
 pub next-line-spec : {M : Type 1} → statement M
 next-line-spec =
     tie.close
     (tie.spec
     enum-known-unit
-    detail-lines-requires
+    record-lines-requires
     same-length
     same-length-2
     same-length-3

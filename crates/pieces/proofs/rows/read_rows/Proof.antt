@@ -33,6 +33,9 @@ enum-known-a c = search needs
 enum-told : tie.Need-enum-told Inv-loop μ-loop
 enum-told c = search needs
 
+add-rows-read : tie.Need-add-rows-read Inv-loop μ-loop
+add-rows-read c = search needs
+
 rows-read-requires : tie.Need-rows-read-requires Inv-loop μ-loop
 rows-read-requires c κs = search needs
 
@@ -63,6 +66,9 @@ loop-less c = search needs
 loop-again : tie.Need-loop-again Inv-loop μ-loop
 loop-again c = (rows-again _ _ _ _ _ _ _ _ _ ((c .before .before .before .before .before .before .before .before .before .loop .inv .0)) _ _ (line-said _ _ _ _ _ _ _ _ ((c .before .before .before .before .before .before .before .read-direct .ensures)) ((c .before .before .before .before .before .a .given .1))) (omega arith) (omega arith) _ ((c .before .before .put-four .ensures)) (omega (arith, (c .before .words .given))), omega arith)
 
+add-rows-read-2 : tie.Need-add-rows-read-2 Inv-loop μ-loop
+add-rows-read-2 c = search needs
+
 rows-read-requires-2 : tie.Need-rows-read-requires-2 Inv-loop μ-loop
 rows-read-requires-2 c κs = search needs
 
@@ -84,6 +90,7 @@ read-rows-spec =
     read-direct-requires
     enum-known-a
     enum-told
+    add-rows-read
     rows-read-requires
     same-length
     returns
@@ -94,6 +101,7 @@ read-rows-spec =
     add-k
     loop-less
     loop-again
+    add-rows-read-2
     rows-read-requires-2
     same-length-2
     returns-2)

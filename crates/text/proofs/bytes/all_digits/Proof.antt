@@ -1,20 +1,21 @@
 -- `text::bytes::all_digits` meets its contract.
 -- Assumes nothing.
-use Prim.Native.Nat.{_-_, _≤_}
+use mathlib.Core.Bool.{_&&_}
 use mathlib.Core.Path.{_≡_, refl}
+use Prim.Native.Nat.{_-_, _≤_}
 use native.Mathlib.Omega.{arith}
 use lib.ListN.{length, drop}
 use borrow.Author.Needs.{needs}
-use Rattle.text.specs.Byte.{isDigit, every}
-use Rattle.text.proofs.Class.{every-found, every-again, every-last}
+use Rattle.text.specs.Byte.{every, isDigit}
+use Rattle.text.proofs.Class.{every-step, every-end}
 use Rattle.text.proofs.bytes.all_digits.Statement.{statement}
 use Rattle.text.proofs.bytes.all_digits.Tie as tie
 
 abbrev Inv-loop : tie.InvT-loop
-Inv-loop s i₀ i = (i ≤ length s) × (every isDigit s ≡ every isDigit (drop i s))
+Inv-loop s ok₀ i₀ ok i = (i ≤ length s) × (every isDigit s ≡ (ok && every isDigit (drop i s)))
 
 abbrev μ-loop : tie.MeasureT-loop
-μ-loop s i₀ i = length s - i
+μ-loop s ok₀ i₀ ok i = length s - i
 
 loop-holds : tie.Need-loop-holds Inv-loop μ-loop
 loop-holds c = (omega arith, refl)
@@ -25,9 +26,6 @@ shared-slice-read-is-digit c = search needs
 is-digit-requires : tie.Need-is-digit-requires Inv-loop μ-loop
 is-digit-requires c κs = search needs
 
-returns : tie.Need-returns Inv-loop μ-loop
-returns c = search (every-found, needs)
-
 add-i : tie.Need-add-i Inv-loop μ-loop
 add-i c = search needs
 
@@ -35,10 +33,10 @@ loop-less : tie.Need-loop-less Inv-loop μ-loop
 loop-less c = search needs
 
 loop-again : tie.Need-loop-again Inv-loop μ-loop
-loop-again c = search (every-again, needs)
+loop-again c = (omega arith, search (every-step, needs))
 
-returns-2 : tie.Need-returns-2 Inv-loop μ-loop
-returns-2 c = search (every-last, needs)
+returns : tie.Need-returns Inv-loop μ-loop
+returns c = search (every-end, needs)
 
 pub all-digits-spec : {M : Type 1} → statement M
 all-digits-spec =
@@ -49,8 +47,7 @@ all-digits-spec =
     loop-holds
     shared-slice-read-is-digit
     is-digit-requires
-    returns
     add-i
     loop-less
     loop-again
-    returns-2)
+    returns)

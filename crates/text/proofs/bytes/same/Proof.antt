@@ -1,20 +1,21 @@
 -- `text::bytes::same` meets its contract.
 -- Assumes nothing.
-use Prim.Native.Nat.{_-_, _≤_}
+use mathlib.Core.Bool.{_&&_}
 use mathlib.Core.Path.{_≡_, refl}
+use Prim.Native.Nat.{_-_, _≤_}
 use native.Mathlib.Omega.{arith}
 use lib.ListN.{length, drop}
 use borrow.Author.Needs.{needs}
 use Rattle.text.specs.Byte.{equals}
-use Rattle.text.proofs.Equal.{equals-found, equals-again, equals-last, equals-lengths}
+use Rattle.text.proofs.Equal.{equals-step, equals-end, equals-lengths}
 use Rattle.text.proofs.bytes.same.Statement.{statement}
 use Rattle.text.proofs.bytes.same.Tie as tie
 
 abbrev Inv-loop : tie.InvT-loop
-Inv-loop a b i₀ i = (i ≤ length a) × (equals a b ≡ equals (drop i a) (drop i b))
+Inv-loop a b ok₀ i₀ ok i = (i ≤ length b) × (equals a b ≡ (ok && equals (drop i a) (drop i b)))
 
 abbrev μ-loop : tie.MeasureT-loop
-μ-loop a b i₀ i = length a - i
+μ-loop a b ok₀ i₀ ok i = length b - i
 
 returns : tie.Need-returns Inv-loop μ-loop
 returns c = search (equals-lengths, needs)
@@ -22,14 +23,11 @@ returns c = search (equals-lengths, needs)
 loop-holds : tie.Need-loop-holds Inv-loop μ-loop
 loop-holds c = (omega arith, refl)
 
-shared-slice-read-if2 : tie.Need-shared-slice-read-if2 Inv-loop μ-loop
-shared-slice-read-if2 c = search needs
+shared-slice-read-ok : tie.Need-shared-slice-read-ok Inv-loop μ-loop
+shared-slice-read-ok c = search needs
 
-shared-slice-read-if2-2 : tie.Need-shared-slice-read-if2-2 Inv-loop μ-loop
-shared-slice-read-if2-2 c = search needs
-
-returns-2 : tie.Need-returns-2 Inv-loop μ-loop
-returns-2 c = search (equals-found, needs)
+shared-slice-read-ok-2 : tie.Need-shared-slice-read-ok-2 Inv-loop μ-loop
+shared-slice-read-ok-2 c = search needs
 
 add-i : tie.Need-add-i Inv-loop μ-loop
 add-i c = search needs
@@ -38,10 +36,11 @@ loop-less : tie.Need-loop-less Inv-loop μ-loop
 loop-less c = search needs
 
 loop-again : tie.Need-loop-again Inv-loop μ-loop
-loop-again c = search (equals-again, needs)
+loop-again c = (omega arith, search (equals-step, needs))
 
-returns-3 : tie.Need-returns-3 Inv-loop μ-loop
-returns-3 c = search (equals-last, needs)
+returns-2 : tie.Need-returns-2 Inv-loop μ-loop
+returns-2 c =
+    equals-end (c .before .before .before .args .a .now) (c .before .before .before .args .b .now) (c .before .loop .i) _ (c .before .loop .inv .1) (omega arith) (omega arith)
 
 pub same-spec : {M : Type 1} → statement M
 same-spec =
@@ -51,10 +50,9 @@ same-spec =
     μ-loop
     returns
     loop-holds
-    shared-slice-read-if2
-    shared-slice-read-if2-2
-    returns-2
+    shared-slice-read-ok
+    shared-slice-read-ok-2
     add-i
     loop-less
     loop-again
-    returns-3)
+    returns-2)

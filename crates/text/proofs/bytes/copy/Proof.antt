@@ -1,13 +1,13 @@
--- `rowtext::put::copy` meets its contract.
+-- `text::bytes::copy` meets its contract.
 -- Assumes nothing.
 use mathlib.Core.Path.{_≡_, refl}
 use Prim.Native.Nat.{_≤_, _-_}
 use native.Mathlib.Omega.{arith}
 use lib.ListN.{length, take, length-set}
 use borrow.Author.Needs.{needs}
-use Rattle.rowtext.proofs.Fill.{copy-again, copy-end}
-use Rattle.rowtext.proofs.put.copy.Statement.{statement}
-use Rattle.rowtext.proofs.put.copy.Tie as tie
+use Rattle.text.proofs.Copied.{copy-again, copy-end}
+use Rattle.text.proofs.bytes.copy.Statement.{statement}
+use Rattle.text.proofs.bytes.copy.Tie as tie
 
 abbrev Inv-loop : tie.InvT-loop
 Inv-loop to₀ text i₀ to i = (i ≤ length text) × (length to ≡ length text) × (take i to ≡ take i text)
