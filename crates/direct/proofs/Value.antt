@@ -2,23 +2,29 @@
 -- Assumes nothing.
 use mathlib.Core.Path.{_≡_, refl, ap, sym, _∙_}
 use mathlib.Core.List.{[], _∷_, _++_, append-nil, map}
-use mathlib.Core.Bool.{Bool, true, false, not, _&&_, _||_}
+use mathlib.Core.Bool.{Bool, true, false, cond, not, _&&_, _||_}
 use Prim.Native.Nat.{ℕ, zero, suc, _+_, _-_, _*_, _^_, _<_, _≤_}
 use Prim.Native.Char.{code}
 use native.Mathlib.Omega.{arith}
 use lib.Bits.{bitXor}
 use lib.Dec.{eqb, leb}
-use lib.ListN.{length, take, drop, getD, length-drop}
+use lib.ListN.{length, take, drop, getD, length-take, length-drop, take-append-drop}
 use lib.Seq.{length-take-le, getD-drop, take-add, take-take}
 use borrow.Author.Tests.{ne-eqb, le-leb, lt-leb, leb-true, eqb-true, eqb-false, not-true, not-false}
 use Rattle.text.specs.Byte.{Bytes, isDigit, every}
-use Rattle.text.specs.Field.{comma}
+use Rattle.text.specs.Field.{comma, firstField}
 use Rattle.text.specs.Number.{numberFrom, leading, behind}
 use Rattle.text.proofs.Truth.{and-left, and-right, or-right}
 use Rattle.text.proofs.Left.{left-cons, drop-take}
 use Rattle.text.proofs.Class.{digit-low}
-use Rattle.lines.specs.Outcome.{passed}
+use Rattle.text.proofs.Comma.{field-take, field-within}
+use Rattle.text.proofs.Decimal.{run-take, run-drop, run-digits}
+use Rattle.lines.specs.Outcome.{passed, refused}
+use Rattle.lines.specs.Verdict.{negative, noValue}
 use Rattle.details.specs.Value.{point, wholeDigits, partDigits, isNegative, wattHours, withPoint, valueParts, valueOf}
+use Rattle.details.specs.Answer.{valueSays as plainSays}
+use Rattle.details.specs.declared.value.Value.{Value as Plain}
+use Rattle.details.specs.declared.value.Value.the-variants.{WattHours as PlainHours}
 use Rattle.direct.specs.Guess.{
   bytesOf,
   isNumeral,
@@ -34,6 +40,7 @@ use Rattle.direct.specs.Guess.{
   statusByte,
   valueSize,
   tailSize,
+  wordSize,
   wholeTaken,
 }
 use Rattle.direct.specs.declared.guess.Value.{Value}
@@ -99,7 +106,7 @@ module _ (q p : Bytes) (n m : ℕ) (w : Writes 0 q n) (v : Writes partDigits p m
       )
 
 -- THE TESTS of the reader
-pub layout : (n d : ℕ) → d ≤ n → (not (eqb n 0) && leb d wholeTaken && not (eqb (n - d) 1) && leb (n - d) (partDigits + 1)) ≡ true → Layout n d
+pub layout : (n d : ℕ) → (d ≤ n) × (n ≤ wordSize) → (not (eqb n 0) && leb d wholeTaken && not (eqb (n - d) 1) && leb (n - d) (partDigits + 1)) ≡ true → Layout n d
 layout n d l h =
     let some : Bool = not (eqb n 0) in
     let digit : Bool = not (eqb (n - d) 1) in
@@ -108,7 +115,8 @@ layout n d l h =
     let z : n ≡ 0 → ⊥ = eqb-false n 0 (not-true _ (and-left some (leb d wholeTaken) h₂)) in
     record {
       some = omega arith;
-      inside = l;
+      inside = l .0;
+      fits = l .1;
       whole = leb-true d wholeTaken (and-right some (leb d wholeTaken) h₂);
       part = leb-true (n - d) (partDigits + 1) (and-right (some && leb d wholeTaken && digit) (leb (n - d) (partDigits + 1)) h);
       digit = eqb-false (n - d) 1 (not-true _ (and-right (some && leb d wholeTaken) digit h₃));
@@ -178,7 +186,7 @@ module _ (t : Bytes) (at n d : ℕ) (room : at + valueSize + tailSize ≤ length
         map-drop (d + 1) (take 8 s),
         drop-take (d + 1) 8 s,
         map-take m (take (8 - (d + 1)) (drop (d + 1) s)),
-        take-take m (8 - (d + 1)) (drop (d + 1) s) (omega (arith, y .whole, y .part)),
+        take-take m (8 - (d + 1)) (drop (d + 1) s) (omega (arith, y .fits)),
         part-long,
       )
 
@@ -191,6 +199,38 @@ module _ (t : Bytes) (at n d : ℕ) (room : at + valueSize + tailSize ≤ length
       (read-by s n d (n - d) _ _ (omega (arith, y .inside)) (simp length-drop (omega (arith, y .whole, y .part))) y (λ l. getD-drop at t d 0 ∙ g (not-false q hq) l)
       (whole-writes (5 - d) whole part short (bytesOf 8 a) lined all)
       (part-writes (5 - d) whole part short (bytesOf 8 a) lined all))
+
+-- A VALUE OF ANY LENGTH, by the plain reader: what the rule passes has digits and a point only
+parts-plain : (whole rest : Bytes) (n : ℕ) → valueParts whole rest ≡ passed n → every inValue rest ≡ true
+unfolding valueParts every
+parts-plain whole [] n h = refl
+parts-plain whole (b ∷ part) n h = go (eqb b point && every isDigit part) refl h
+  where
+    go : (t : Bool) → (eqb b point && every isDigit part) ≡ t → cond t (withPoint whole part) (refused noValue) ≡ passed n → (inValue b && every inValue part) ≡ true
+    go true e g = rw (eqb-true b point (and-left (eqb b point) (every isDigit part) e)) (digits-plain part (and-right (eqb b point) (every isDigit part) e))
+    go false e g = let z : _≡_ {A = ℕ} 0 1 = cc in absurd (omega arith)
+
+value-plain : (f : Bytes) (n : ℕ) → valueOf f ≡ passed n → every inValue f ≡ true
+unfolding valueOf
+value-plain f n h =
+    let text : f ≡ leading f ++ behind f = sym (take-append-drop (length (leading f)) f) ∙ rw (run-take f, run-drop f) in
+    ap (every inValue) text
+    ∙ every-append inValue (leading f) (behind f) (digits-plain (leading f) (run-digits f)) (parts-plain (leading f) (behind f) n (plus (isNegative f) h))
+  where
+    plus : (t : Bool) → cond t (refused negative) (valueParts (leading f) (behind f)) ≡ passed n → valueParts (leading f) (behind f) ≡ passed n
+    plus true g = let z : _≡_ {A = ℕ} 0 1 = cc in absurd (omega arith)
+    plus false g = g
+
+-- f is what stands before the comma, and v the plain reader's answer
+pub long-read : (t : Bytes) (at wh : ℕ) (f : Bytes) (v : Plain) → f ≡ firstField (take (at + valueSize - at) (drop at t)) → plainSays v ≡ valueOf f → v ≡ PlainHours wh
+    → BeginsValue (drop at t) wh (length f)
+long-read t at wh f v e says ev =
+    let m : ℕ = at + valueSize - at in
+    let s : Bytes = drop at t in
+    let inside : length f ≤ m = omega (arith, ap length e, field-within (take m s), length-take m s) in
+    let text : take (length f) s ≡ f = sym (take-take (length f) m s inside) ∙ rw e (sym (field-take (take m s))) in
+    let worth : valueOf f ≡ passed wh = sym says ∙ rw ev in
+    record { short = omega arith; plain = rw text (value-plain f wh worth); value = rw text worth }
 
 -- what stands behind a value, as a word
 abbrev tailWord : Bool → ℕ
@@ -213,3 +253,12 @@ module _ (t : Bytes) (at wh n : ℕ) (v : Value) (says : valueSays v (drop at t)
   module _ (x : ℕ) (word : bytesOf 4 x ≡ take 4 (drop (at + n) t)) where
     pub triple-read : (estimated : Bool) → x ≡ tailWord estimated → HasTriple t at (record { wh = wh; estimated = estimated }) (at + n + tailSize)
     triple-read estimated e = record { n = n; value = begun; behind = sym word ∙ rw e (tail-bytes estimated); ends = refl }
+
+    pub triple-either : (not (eqb x (tailWord true)) && not (eqb x (tailWord false))) ≡ false
+        → HasTriple t at (record { wh = wh; estimated = eqb x (tailWord true) }) (at + n + tailSize)
+    triple-either h = go (eqb x (tailWord true)) refl h
+      where
+        go : (e : Bool) → eqb x (tailWord true) ≡ e → (not e && not (eqb x (tailWord false))) ≡ false
+            → HasTriple t at (record { wh = wh; estimated = e }) (at + n + tailSize)
+        go true e g = triple-read true (eqb-true x (tailWord true) e)
+        go false e g = triple-read false (eqb-true x (tailWord false) (not-false _ g))

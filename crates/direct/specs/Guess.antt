@@ -12,7 +12,7 @@ use Rattle.text.specs.Byte.{Bytes, isDigit, every}
 use Rattle.text.specs.Field.{comma}
 use Rattle.text.specs.Number.{number}
 use Rattle.lines.specs.Outcome.{passed}
-use Rattle.details.specs.Value.{point, partDigits, valueOf}
+use Rattle.details.specs.Value.{point, wholeDigits, partDigits, valueOf}
 use Rattle.details.specs.declared.detail.Interval.{Interval}
 use Rattle.direct.specs.declared.guess.Value.{Value}
 use Rattle.direct.specs.declared.guess.Value.the-variants.{WattHours, Other as ValueOther}
@@ -21,19 +21,22 @@ use Rattle.direct.specs.declared.Triple.the-variants.{Read, Other as Tri
 
 -- the bytes that are looked at; every line that is taken ends within them
 abbrev pub windowSize : ℕ
-windowSize = 64
+windowSize = 66
 
 -- a detail line's code with its comma
 abbrev pub codeSize : ℕ
 codeSize = 9
 
--- digits before the point that are taken; a value may have more of them (`wholeDigits`)
-abbrev pub wholeTaken : ℕ
-wholeTaken = 4
-
--- the longest value that is taken, point included
+-- the longest value, point included
 abbrev pub valueSize : ℕ
-valueSize = wholeTaken + 1 + partDigits
+valueSize = wholeDigits + 1 + partDigits
+
+-- the bytes of a word, and the digits before the point that are taken in one
+abbrev pub wordSize : ℕ
+wordSize = 8
+
+abbrev pub wholeTaken : ℕ
+wholeTaken = 5
 
 abbrev pub statusByte : Bool → ℕ
 statusByte true = code "E"
@@ -46,10 +49,11 @@ tail status = comma ∷ status ∷ comma ∷ comma ∷ []
 abbrev pub tailSize : ℕ
 tailSize = 4
 
--- a value may have n bytes, d of them before its point (all of them, if it has none): a point has a digit behind it
+-- a value in a word may have n bytes, d of them before its point (all of them, if it has none): a point has a digit behind it
 pub record Layout (n d : ℕ) : Type 0 where
   pub some : 0 < n
   pub inside : d ≤ n
+  pub fits : n ≤ wordSize
   pub whole : d ≤ wholeTaken
   pub part : n - d ≤ partDigits + 1
   pub digit : n - d ≡ 1 → ⊥
@@ -76,7 +80,7 @@ pub record Writes (w : ℕ) (s : Bytes) (n : ℕ) : Type 0 where
   pub clean : every isDigit s ≡ true
   pub value : number s * 10 ^ (w - length s) ≡ n
 
--- the bytes that a value can have here
+-- the bytes that a value can have
 abbrev pub inValue : ℕ → Bool
 inValue b = isDigit b || eqb b point
 

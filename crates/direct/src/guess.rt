@@ -5,20 +5,20 @@ ghost use mathlib.Core.Bool.{true};
 ghost use Prim.Native.Nat.{_+_, _-_, _≤_, _<_};
 ghost use lib.ListN.{length, drop};
 ghost use Rattle.details.specs.Value.{point};
-ghost use Rattle.direct.specs.Guess.{valueSize, tailSize, Layout, valueSays};
+ghost use Rattle.direct.specs.Guess.{valueSize, tailSize, wordSize, Layout, valueSays};
 use crate::word::aligned;
 use crate::word::all_numerals;
 use crate::word::eight;
 use crate::word::number;
 
-// Watt hours, and how many bytes the value has; or it is for the plain reader.
+// Watt hours, and how many bytes the value has; or it is for another reader.
 pub enum Value {
     WattHours(u32, usize),
     Other,
 }
 
-// Digits before the point and behind it.
-const WHOLE_TAKEN: usize = 4;
+// Digits before the point that a word has room for, and those behind it.
+const WHOLE_TAKEN: usize = 5;
 
 const PART_DIGITS: usize = 3;
 
@@ -45,16 +45,16 @@ fn least(a: usize, b: usize) -> usize
 // Where the word first has the byte that the pattern repeats; 8 if nowhere. c has its first zero byte there, and m its lowest bit: taking
 // one from each byte of c turns a zero into 255, and sets no top bit before it that c has not.
 fn guess(word: u64, pattern: u64) -> usize
-    ensures { λ r. ⌜ r ≤ valueSize ⌝ }
+    ensures { λ r. ⌜ r ≤ wordSize ⌝ }
 {
     let c = word ^ pattern;
     let m = std::num::wrapping_sub_u64(c, 0x0101010101010101) & !c & 0x8080808080808080;
     least(wide_place(u64::trailing_zeros(m) / 8), WORD)
 }
 
-// Whether a value may have n bytes with its point at d (at n: no point).
+// Whether a value of a word may have n bytes with its point at d (at n: no point).
 fn has_layout(n: usize, d: usize) -> bool
-    requires { ⌜ d ≤ n ⌝ }
+    requires { ⌜ (d ≤ n) × (n ≤ wordSize) ⌝ }
     ensures { λ r. ⌜ (r ≡ true → Layout n d) ⌝ }
 {
     let f = n - d;
@@ -68,7 +68,7 @@ fn dotted(f: usize, b: u8) -> bool
     (f == 0) | (b == b'.')
 }
 
-// The value at a place.
+// The value at a place. One that goes on behind the word is cut there: its comma will be missed.
 pub fn read_value(t: &[u8], at: usize) -> Value
     requires { ⌜ at + valueSize + tailSize ≤ length (now t) ⌝ }
     ensures { λ r. ⌜ valueSays r (drop at (now (t .entry))) ⌝ }

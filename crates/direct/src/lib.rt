@@ -1,7 +1,8 @@
 // The fast way through a detail line: the whole line is read straight on the piece, with no search for its LF and no cutting into fields.
 //
-// It takes the common lines, whose values have at most four digits before the point, where the piece has 64 bytes left. For any other,
-// right or wrong, it answers `Other`, and the plain reader of `details` decides:
+// It takes the common lines, whose values have at most eight bytes and five digits before the point; `any::read_any` takes values of any
+// length, and is for a line that is left. Both want 66 bytes of the piece, the longest such line. For any other, right or wrong, they answer
+// `Other`, and the plain reader of `details` decides:
 //
 //     match direct::read_direct(piece, at, k) {
 //         Direct::Line(a, b, c, d, n) => ..   // n bytes at `at`, then LF: detail line k with these intervals
@@ -11,22 +12,24 @@
 // For whoever changes it: what `Line` owes is specs/Direct.antt, which cites the row's rule in details; `Other` owes nothing, so a reader that
 // takes fewer lines is slower and still right. The shape was chosen by measuring: bytes tested and digits read several at once, in a word,
 // the four intervals one after another with no loop, and a window of fixed size, of which every index is proved to be inside. `Triple` has the
-// place behind an interval apart from its watt hours: the next interval waits for nothing but the place.
+// place behind an interval apart from its watt hours: the next interval waits for nothing but the place. `read_direct` has to stay small: the
+// compiler makes it a part of its caller's loop (any.rt has what it costs otherwise).
 ghost use mathlib.Core.Path.{_≡_};
 ghost use mathlib.Core.Bool.{true};
 ghost use mathlib.Core.List.{[], _∷_, _++_};
 ghost use Prim.Native.Nat.{_+_, _≤_};
-ghost use lib.ListN.{length, take, drop, getD};
+ghost use lib.ListN.{length, take, drop};
 ghost use Rattle.text.specs.Field.{comma};
 ghost use Rattle.details.specs.Detail.{detailCode};
 ghost use Rattle.direct.specs.Direct.{directSays};
-ghost use Rattle.direct.specs.Guess.{windowSize, codeSize, valueSize, tailSize, tail, tripleSays};
+ghost use Rattle.direct.specs.Guess.{windowSize, codeSize, valueSize, tailSize, tripleSays};
 use crate::guess::Value;
 use crate::guess::read_value;
 use crate::word::four;
 use details::detail::Interval;
 use lines::line::LF;
 
+pub mod any;
 mod guess;
 mod word;
 
@@ -42,7 +45,7 @@ enum Triple {
     Other,
 }
 
-const WINDOW: usize = 64;
+const WINDOW: usize = 66;
 
 // A detail line's code with its comma.
 const CODE: usize = 9;

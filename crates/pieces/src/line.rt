@@ -18,7 +18,7 @@ use crate::rows::RowsRead;
 use crate::rows::read_headers;
 use crate::rows::read_rows;
 use direct::Direct;
-use direct::read_direct;
+use direct::any::read_any;
 use lines::line::ends_with_cr;
 use lines::line::without_cr;
 use records::HEADER_ROWS;
@@ -196,7 +196,7 @@ fn last_row(
 {
     let k = p.read - HEADER_ROWS;
     if k < MAX_DETAILS {
-        let r = read_direct(piece, at, k);
+        let r = read_any(piece, at, k);
         if let Direct::Line(a, b, c, d, n) = r {
             let row = take_detail(
                 p,

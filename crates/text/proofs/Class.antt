@@ -60,6 +60,13 @@ every-append class [] b h g = g
 every-append class (x ∷ a) b h g =
     and-both (class x) (every class (a ++ b)) (and-left (class x) (every class a) h) (every-append class a b (and-right (class x) (every class a) h) g)
 
+-- one class within another
+pub every-wider : (p q : ℕ → Bool) → ((b : ℕ) → p b ≡ true → q b ≡ true) → (s : Bytes) → every p s ≡ true → every q s ≡ true
+unfolding every
+every-wider p q w [] h = refl
+every-wider p q w (b ∷ s) h =
+    and-both (q b) (every q s) (w b (and-left (p b) (every p s) h)) (every-wider p q w s (and-right (p b) (every p s) h))
+
 -- the scan, which does not stop early: what it has found so far, and what is left
 module _ (class : ℕ → Bool) (s : Bytes) (i : ℕ) (ok : Bool) (inv : every class s ≡ (ok && every class (drop i s))) where
   pub every-step : (r : Bool) → i < length s → r ≡ class (getD s i 0) → every class s ≡ ((ok && r) && every class (drop (i + 1) s))

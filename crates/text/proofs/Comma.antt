@@ -1,17 +1,19 @@
 -- Fields: the scan for a comma, the count of fields, and a line's list of fields taken one after the other.
 -- Assumes nothing.
 use mathlib.Core.Path.{_≡_, refl, ap, sym, _∙_}
-use mathlib.Core.List.{List, [], _∷_}
-use mathlib.Core.Bool.{Bool, true, false, cond}
+use mathlib.Core.List.{List, [], _∷_, _++_, append-nil}
+use mathlib.Core.Bool.{Bool, true, false, cond, not}
 use Prim.Native.Nat.{ℕ, zero, suc, _+_, _-_, _<_, _≤_}
 use native.Mathlib.Omega.{arith}
 use native.Mathlib.Numerals.{add-one}
-use lib.Dec.{eqb}
+use lib.Dec.{eqb, leb}
 use lib.ListN.{length, take, drop, getD, length-take, length-drop}
-use borrow.Author.Tests.{eq-eqb, ne-eqb}
-use Rattle.text.specs.Byte.{Bytes}
+use borrow.Author.Tests.{eq-eqb, ne-eqb, leb-true, leb-false, lt-leb, not-true}
+use Rattle.text.specs.Byte.{Bytes, isDigit, isAlnum, every}
 use Rattle.text.specs.Field.{comma, cut, inFront, firstField, afterField, fieldAt}
+use Rattle.text.proofs.Truth.{apart, and-left, and-right}
 use Rattle.text.proofs.Left.{left-cons, left-none, left-whole, left-empty}
+use Rattle.text.proofs.Class.{digit-low, every-wider}
 
 -- THE FIRST FIELD is the line's bytes up to its length.
 field-take-by : (t : Bool) (b : ℕ) (f s : Bytes) → f ≡ take (length f) s → cond t [] (b ∷ f) ≡ take (length (cond t [] (b ∷ f))) (b ∷ s)
@@ -144,3 +146,43 @@ cut-less s h = ap length (cut-more s h)
 
 pub after-within : (s : Bytes) → length (afterField s) ≤ length s
 after-within s = omega (arith, ap length (field-drop s), length-drop (length (firstField s) + 1) s)
+
+-- A LINE MADE OF FIELDS is cut into them again: no byte of a field is a comma.
+abbrev pub notComma : ℕ → Bool
+notComma b = not (eqb b comma)
+
+abbrev pub NoComma : Bytes → Type 0
+NoComma f = every notComma f ≡ true
+
+high-not-comma : (b : ℕ) → 48 ≤ b → notComma b ≡ true
+high-not-comma b h = ap not (ne-eqb b comma (λ e. omega arith))
+
+alnum-high : (b : ℕ) → isAlnum b ≡ true → 48 ≤ b
+alnum-high b h = go (leb 48 b) refl
+  where
+    go : (t : Bool) → leb 48 b ≡ t → 48 ≤ b
+    go true e = leb-true 48 b e
+    go false e =
+        let l : b < 48 = leb-false 48 b e in
+        absurd (apart (rw (e, lt-leb 65 b (omega arith), lt-leb 97 b (omega arith)) at h))
+
+pub digits-no-comma : (s : Bytes) → every isDigit s ≡ true → NoComma s
+digits-no-comma s h = every-wider isDigit notComma (λ b e. high-not-comma b (digit-low b e)) s h
+
+pub alnum-no-comma : (s : Bytes) → every isAlnum s ≡ true → NoComma s
+alnum-no-comma s h = every-wider isAlnum notComma (λ b e. high-not-comma b (alnum-high b e)) s h
+
+cut-on : (f rest : Bytes) (fs : List Bytes) → NoComma f → cut rest ≡ [] ∷ fs → cut (f ++ rest) ≡ f ∷ fs
+unfolding cut every
+cut-on [] rest fs h e = e
+cut-on (b ∷ f) rest fs h e =
+    rw (not-true (eqb b comma) (and-left (notComma b) (every notComma f) h), cut-on f rest fs (and-right (notComma b) (every notComma f) h) e)
+
+-- a field with its comma in front of others, and a field alone
+pub cut-field : (f rest : Bytes) (fs : List Bytes) → NoComma f → cut rest ≡ fs → cut (f ++ comma ∷ rest) ≡ f ∷ fs
+unfolding cut
+cut-field f rest fs h e = cut-on f (comma ∷ rest) fs h (ap (λ r. [] ∷ r) e)
+
+pub cut-alone : (f : Bytes) → NoComma f → cut f ≡ f ∷ []
+unfolding cut
+cut-alone f h = rw append-nil at (cut-on f [] [] h refl)

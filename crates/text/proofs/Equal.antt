@@ -1,7 +1,7 @@
 -- Texts compared byte by byte: two of one length, and a text with the beginning of another.
 -- Assumes nothing.
 use mathlib.Core.Path.{_≡_, refl, ap, sym, _∙_}
-use mathlib.Core.List.{[], _∷_}
+use mathlib.Core.List.{[], _∷_, _++_}
 use mathlib.Core.Bool.{Bool, true, false, _&&_, and-true, and-assoc}
 use Prim.Native.Nat.{ℕ, suc, _+_, _<_, _≤_}
 use native.Mathlib.Omega.{arith}
@@ -68,6 +68,15 @@ unfolding startsWith
 starts-long [] s h = omega arith
 starts-long (b ∷ p) [] h = absurd (apart h)
 starts-long (b ∷ p) (c ∷ s) h = omega (arith, starts-long p s (and-right (eqb c b) (startsWith p s) h))
+
+-- a text that begins with another is that one, and what stands behind it
+pub starts-whole : (p s : Bytes) → startsWith p s ≡ true → s ≡ p ++ drop (length p) s
+unfolding startsWith
+starts-whole [] s h = refl
+starts-whole (b ∷ p) [] h = absurd (apart h)
+starts-whole (b ∷ p) (c ∷ s) h =
+    let e : c ≡ b = eqb-true c b (and-left (eqb c b) (startsWith p s) h) in
+    rw e (ap (λ r. b ∷ r) (starts-whole p s (and-right (eqb c b) (startsWith p s) h)))
 
 -- the beginning at i, likewise
 module _ (p s : Bytes) (i : ℕ) (ok : Bool) (inv : startsWith p s ≡ (ok && startsWith (drop i p) (drop i s))) (room : length p ≤ length s) where

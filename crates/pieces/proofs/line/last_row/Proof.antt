@@ -11,8 +11,8 @@ use Rattle.pieces.proofs.line.last_row.Tie as tie
 sub-k : tie.Need-sub-k
 sub-k c = search needs
 
-read-direct-requires : tie.Need-read-direct-requires
-read-direct-requires c κs = search needs
+read-any-requires : tie.Need-read-any-requires
+read-any-requires c κs = search needs
 
 enum-known-r : tie.Need-enum-known-r
 enum-known-r c = search needs
@@ -27,10 +27,10 @@ settle-requires : tie.Need-settle-requires
 settle-requires c κs = search needs
 
 add-behind-line : tie.Need-add-behind-line
-add-behind-line c = omega (arith, (c .before .before .before .before .before .before .before .before .before .before .before .before .before .before .before .before .before .before .before .before .before .before .good .1 .1 .1 .0 .0), direct-within _ ((c .before .before .before .before .before .before .before .before .before .before .before .before .before .before .before .before .before .before .before .before .before .before .args .piece .now)) ((c .before .before .before .before .before .before .before .before .before .before .before .before .before .before .before .before .before .before .before .before .before .before .args .at)) _ _ (line-said _ _ _ _ _ _ _ _ ((c .before .before .before .before .before .before .before .before .before .before .read-direct .ensures)) ((c .before .before .before .before .before .before .before .before .r .given .1))))
+add-behind-line c = omega (arith, (c .before .before .before .before .before .before .before .before .before .before .before .before .before .before .before .before .before .before .before .before .before .before .good .1 .1 .1 .0 .0), direct-within _ ((c .before .before .before .before .before .before .before .before .before .before .before .before .before .before .before .before .before .before .before .before .before .before .args .piece .now)) ((c .before .before .before .before .before .before .before .before .before .before .before .before .before .before .before .before .before .before .before .before .before .before .args .at)) _ _ (line-said _ _ _ _ _ _ _ _ ((c .before .before .before .before .before .before .before .before .before .before .read-any .ensures)) ((c .before .before .before .before .before .before .before .before .r .given .1))))
 
 behind-line-requires : tie.Need-behind-line-requires
-behind-line-requires c κs = (omega (arith, (c .before .before .before .before .before .before .before .before .before .before .before .before .before .before .before .before .before .before .before .before .before .before .pre .2 .fits), (c .before .before .before .before .before .before .before .before .before .before .before .before .before .before .before .before .before .before .before .before .before .before .pre .3)), omega (arith, (c .before .before .before .before .before .before .before .before .before .before .before .before .before .before .before .before .before .before .before .before .before .before .good .1 .1 .1 .0 .0), direct-within _ ((c .before .before .before .before .before .before .before .before .before .before .before .before .before .before .before .before .before .before .before .before .before .before .args .piece .now)) ((c .before .before .before .before .before .before .before .before .before .before .before .before .before .before .before .before .before .before .before .before .before .before .args .at)) _ _ (line-said _ _ _ _ _ _ _ _ ((c .before .before .before .before .before .before .before .before .before .before .read-direct .ensures)) ((c .before .before .before .before .before .before .before .before .r .given .1)))))
+behind-line-requires c κs = (omega (arith, (c .before .before .before .before .before .before .before .before .before .before .before .before .before .before .before .before .before .before .before .before .before .before .pre .2 .fits), (c .before .before .before .before .before .before .before .before .before .before .before .before .before .before .before .before .before .before .before .before .before .before .pre .3)), omega (arith, (c .before .before .before .before .before .before .before .before .before .before .before .before .before .before .before .before .before .before .before .before .before .before .good .1 .1 .1 .0 .0), direct-within _ ((c .before .before .before .before .before .before .before .before .before .before .before .before .before .before .before .before .before .before .before .before .before .before .args .piece .now)) ((c .before .before .before .before .before .before .before .before .before .before .before .before .before .before .before .before .before .before .before .before .before .before .args .at)) _ _ (line-said _ _ _ _ _ _ _ _ ((c .before .before .before .before .before .before .before .before .before .before .read-any .ensures)) ((c .before .before .before .before .before .before .before .before .r .given .1)))))
 
 same-length : tie.Need-same-length
 same-length c = search needs
@@ -42,7 +42,7 @@ same-length-3 : tie.Need-same-length-3
 same-length-3 c = search needs
 
 returns : tie.Need-returns
-returns c = direct-moves ((c .before .before .before .before .before .before .before .before .before .before .before .before .before .before .before .before .before .before .before .before .before .before .before .args .registry .now)) ((c .before .before .before .before .before .before .before .before .before .before .before .before .before .before .before .before .before .before .before .before .before .before .before .args .kept .now)) ((c .before .before .before .before .before .before .before .before .before .before .before .before .before .before .before .before .before .before .before .before .before .before .before .args .lines)) ((c .before .before .before .before .before .before .before .before .before .before .before .before .before .before .before .before .before .before .before .before .before .before .before .args .first)) ((c .before .before .before .before .before .before .before .before .before .before .before .before .before .before .before .before .before .before .before .before .before .before .before .args .p)) ((c .before .before .before .before .before .before .before .before .before .before .before .before .before .before .before .before .before .before .before .before .before .before .before .args .id .now)) ((c .before .before .before .before .before .before .before .before .before .before .before .before .before .before .before .before .before .before .before .before .before .before .before .args .sender .now)) ((c .before .before .before .before .before .before .before .before .before .before .before .before .before .before .before .before .before .before .before .before .before .before .before .args .words .now)) ((c .before .before .before .before .before .before .before .before .before .before .before .before .before .before .before .before .before .before .before .before .before .before .before .args .piece .now)) ((c .before .before .before .before .before .before .before .before .before .before .before .before .before .before .before .before .before .before .before .before .before .before .before .args .at)) ((c .before .before .before .before .before .before .before .before .before .before .before .before .before .before .before .before .before .before .before .before .before .before .before .pre .2)) ((c .before .before .before .before .before .before .before .before .before .before .before .before .before .before .before .before .before .before .before .before .before .before .before .pre .4)) _ _ refl ((c .before .before .before .before .before .before .before .before .before .before .before .before .if1 .taken)) _ (line-said _ _ _ _ _ _ _ _ ((c .before .before .before .before .before .before .before .before .before .before .before .read-direct .ensures)) ((c .before .before .before .before .before .before .before .before .before .r .given .1))) ((c .before .before .before .before .take-detail .result)) ((c .before .settle .result)) _ ((c .before .before .before .before .before .before .before .before .before .before .before .before .before .before .before .before .before .before .before .before .before .before .before .args .table .now)) ((c .before .before .before .before .take-detail .ensures .1)) ((c .before .before .before .before .take-detail .ensures .0)) (((c .before .settle .ensures)) _ _ _) _ ((c .behind-line .ensures))
+returns c = direct-moves ((c .before .before .before .before .before .before .before .before .before .before .before .before .before .before .before .before .before .before .before .before .before .before .before .args .registry .now)) ((c .before .before .before .before .before .before .before .before .before .before .before .before .before .before .before .before .before .before .before .before .before .before .before .args .kept .now)) ((c .before .before .before .before .before .before .before .before .before .before .before .before .before .before .before .before .before .before .before .before .before .before .before .args .lines)) ((c .before .before .before .before .before .before .before .before .before .before .before .before .before .before .before .before .before .before .before .before .before .before .before .args .first)) ((c .before .before .before .before .before .before .before .before .before .before .before .before .before .before .before .before .before .before .before .before .before .before .before .args .p)) ((c .before .before .before .before .before .before .before .before .before .before .before .before .before .before .before .before .before .before .before .before .before .before .before .args .id .now)) ((c .before .before .before .before .before .before .before .before .before .before .before .before .before .before .before .before .before .before .before .before .before .before .before .args .sender .now)) ((c .before .before .before .before .before .before .before .before .before .before .before .before .before .before .before .before .before .before .before .before .before .before .before .args .words .now)) ((c .before .before .before .before .before .before .before .before .before .before .before .before .before .before .before .before .before .before .before .before .before .before .before .args .piece .now)) ((c .before .before .before .before .before .before .before .before .before .before .before .before .before .before .before .before .before .before .before .before .before .before .before .args .at)) ((c .before .before .before .before .before .before .before .before .before .before .before .before .before .before .before .before .before .before .before .before .before .before .before .pre .2)) ((c .before .before .before .before .before .before .before .before .before .before .before .before .before .before .before .before .before .before .before .before .before .before .before .pre .4)) _ _ refl ((c .before .before .before .before .before .before .before .before .before .before .before .before .if1 .taken)) _ (line-said _ _ _ _ _ _ _ _ ((c .before .before .before .before .before .before .before .before .before .before .before .read-any .ensures)) ((c .before .before .before .before .before .before .before .before .before .r .given .1))) ((c .before .before .before .before .take-detail .result)) ((c .before .settle .result)) _ ((c .before .before .before .before .before .before .before .before .before .before .before .before .before .before .before .before .before .before .before .before .before .before .before .args .table .now)) ((c .before .before .before .before .take-detail .ensures .1)) ((c .before .before .before .before .take-detail .ensures .0)) (((c .before .settle .ensures)) _ _ _) _ ((c .behind-line .ensures))
 
 enum-told : tie.Need-enum-told
 enum-told c = search needs
@@ -73,7 +73,7 @@ last-row-spec =
     tie.close
     (tie.spec
     sub-k
-    read-direct-requires
+    read-any-requires
     enum-known-r
     take-detail-requires
     add-settle
