@@ -26,7 +26,7 @@ use Rattle.direct.specs.declared.Direct.the-variants.{Line}
 use Rattle.records.specs.declared.Progress.{Progress}
 use Rattle.records.specs.Answer.{rowsOf}
 use Rattle.records.proofs.Steps.{due-detail}
-use Rattle.pieces.specs.Ran.{between, withRead, readTo, RowsRan}
+use Rattle.pieces.specs.Ran.{between, withRead, readTo, RowPut, RowsRan}
 use Rattle.pieces.proofs.Ends.{between-add}
 use Rattle.pieces.proofs.Running.{more-to, more-quiet}
 
@@ -77,6 +77,17 @@ module _ (reg s : Bytes) (k n : ℕ) (vs : List Interval) (d : DetailLine k s vs
       ≡ settle first m (afterDetail reg k (withRow rows (withIntervals (rows .words) (k * perRow) vs) (rows .sender)))
   unfolding stepLine stepKind rulesOf
   direct-step first m = rw (detail-body (take n s) (d .kind)) (ap (settle first m) direct-row)
+
+-- ---- A ROW THAT IS PUT
+
+pub none-put : (k : ℕ) (s : Bytes) (words : Words) → length words ≡ width → RowPut k s words 0 words
+none-put k s words h = record { sized = h; none = λ e. refl; some = λ x. absurd (omega arith) }
+
+pub row-put : (k : ℕ) (s : Bytes) (words words' : Words) (vs : List Interval) (n : ℕ) → DetailLine k s vs n → words' ≡ withIntervals words (k * perRow) vs
+    → length words' ≡ width → RowPut k s words (n + 1) words'
+row-put k s words words' vs n d e h =
+    let z : n + 1 - 1 ≡ n = omega arith in
+    record { sized = h; none = λ x. absurd (omega arith); some = λ x. (vs, rw z d, e) }
 
 -- ---- ROWS
 
@@ -150,3 +161,24 @@ module _ (p : Progress) (lines : ℕ) (piece : Bytes) (at : ℕ) (words₀ : Wor
       step : (reg id sender : Bytes) (first : ℕ)
           → stepLine (rulesOf reg) (suc n) (endedLine (take len (drop e piece))) (held id sender first) ≡ record { unit = next id sender first; events = [] }
       step reg id sender first = goes reg (rows id sender) first (suc n) (omega arith) (omega arith) small more ∙ rw put
+
+-- the same, of a row that was put
+module _ (p : Progress) (lines : ℕ) (piece : Bytes) (at : ℕ) (words₀ : Words) (k n e : ℕ) (words : Words)
+    (inv : RowsRan p lines piece at words₀ (readTo p k n e) words) (size : ℕ) (words' : Words) (put : RowPut k (drop e piece) words size words')
+    (some : size ≡ 0 → ⊥) where
+  one-more : (vs : List Interval) × DetailLine k (drop e piece) vs (size - 1) × (words' ≡ withIntervals words (k * perRow) vs)
+  one-more = put .some (omega (arith, some))
+
+  pub put-within : e + size ≤ length piece
+  put-within = omega (arith, some, line-within p lines piece at words₀ k n e words inv (one-more .0) (size - 1) (one-more .1))
+
+  pub put-again : k < maxDetails → suc k < p .due → RowsRan p lines piece at words₀ (readTo p (k + 1) (n + 1) (e + size)) words'
+  put-again small more =
+      let z : e + (size - 1) + 1 ≡ e + size = omega (arith, some) in
+      rw z at (rows-again p lines piece at words₀ k n e words inv (one-more .0) (size - 1) (one-more .1) small more words' (one-more .2) (put .sized))
+
+-- and of one that was not
+pub put-none : (p : Progress) (lines : ℕ) (piece : Bytes) (at : ℕ) (words₀ : Words) (k n e : ℕ) (words : Words)
+    → RowsRan p lines piece at words₀ (readTo p k n e) words → (size : ℕ) (words' : Words) → RowPut k (drop e piece) words size words' → size ≡ 0
+    → RowsRan p lines piece at words₀ (readTo p k n e) words'
+put-none p lines piece at words₀ k n e words inv size words' put z = rw (put .none z) inv

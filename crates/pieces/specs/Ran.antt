@@ -8,8 +8,12 @@ use Prim.Native.Nat.{ℕ, zero, suc, _+_, _-_, _*_, _<_, _≤_}
 use lib.ListN.{length, take, drop, getD}
 use Rattle.text.specs.Byte.{Bytes}
 use Rattle.lines.specs.Line.{LF, NoLF, endedLine}
+use Rattle.details.specs.Detail.{perRow}
+use Rattle.details.specs.declared.detail.Interval.{Interval}
+use Rattle.direct.specs.Direct.{DetailLine}
 use Rattle.registry.specs.Entry.{ownerSize}
 use Rattle.cell.specs.Layout.{Words, width}
+use Rattle.cell.specs.Read.{withIntervals}
 use Rattle.plain.specs.declared.Entry.{Entry}
 use Rattle.plain.specs.Rows.{Rules, rulesOf, headerRows, maxDetails}
 use Rattle.plain.specs.Loader.{Scan, scan, takesRows, stepLine, scanTo, scanEvents, entryOf}
@@ -76,6 +80,12 @@ pub record HeaderRead (p : Progress) (raw : Bytes) (r : Bool) (sender : Bytes) (
       → stepLine (rulesOf reg) n (endedLine raw) (takesRows first (rowsOf p id sender words))
       ≡ record { unit = takesRows first (rowsOf (oneMore p) id sender' words'); events = [] }
   pub stays : r ≡ false → (sender' ≡ sender) × (words' ≡ words)
+
+-- a detail row at the front of the bytes, r of them with its LF, is read and its intervals are put; where r is 0, nothing is
+pub record RowPut (k : ℕ) (s : Bytes) (words : Words) (r : ℕ) (words' : Words) : Type 0 where
+  pub sized : length words' ≡ width
+  pub none : r ≡ 0 → words' ≡ words
+  pub some : 0 < r → (vs : List Interval) × DetailLine k s vs (r - 1) × (words' ≡ withIntervals words (k * perRow) vs)
 
 -- rows read from a place on, with what they leave of Sender and words: nothing is said
 pub record HeadersRan (p : Progress) (lines : ℕ) (piece : Bytes) (at : ℕ) (sender : Bytes) (before : Words) (r : RowsRead) (sender' : Bytes) (after : Words)

@@ -2,15 +2,16 @@
 // look for their end.
 ghost use mathlib.Core.Path.{_≡_};
 ghost use Prim.Native.Nat.{_+_, _-_, _<_, _≤_};
-ghost use lib.ListN.{length};
+ghost use lib.ListN.{length, drop};
 ghost use Rattle.registry.specs.Entry.{ownerSize};
 ghost use Rattle.cell.specs.Layout.{width};
 ghost use Rattle.plain.specs.Rows.{headerRows, maxDetails};
 ghost use Rattle.plain.specs.Call.{byteLimit};
 ghost use Rattle.records.specs.Answer.{Few};
-ghost use Rattle.pieces.specs.Ran.{withRead, rowsTo, HeaderRead, HeadersRan, RowsRan};
+ghost use Rattle.pieces.specs.Ran.{withRead, rowsTo, HeaderRead, HeadersRan, RowsRan, RowPut};
 use crate::end::line_end;
 use direct::Direct;
+use direct::any::read_any;
 use direct::read_direct;
 use lines::line::ends_with_cr;
 use lines::line::without_cr;
@@ -108,6 +109,30 @@ fn before_last(due: u32) -> u32
     due - 1
 }
 
+// Detail row k with values of any length, at a place: how many bytes it has, its LF included; 0 where the plain reader has to decide.
+fn put_any(words: &mut [u32], piece: &[u8], at: usize, k: u32) -> usize
+    requires { ⌜ (k < maxDetails) × (length (now words) ≡ width) ⌝ }
+    ensures { λ r. ⌜ RowPut k (drop at (now (piece .entry))) (now (words .entry)) r (now (words .exit)) ⌝ }
+{
+    let Direct::Line(a, b, c, d, len) = read_any(piece, at, k) else {
+        return 0;
+    };
+    put_four(words, k, a, b, c, d);
+    len + 1
+}
+
+// The same, by the common lines' reader first.
+fn put_row(words: &mut [u32], piece: &[u8], at: usize, k: u32) -> usize
+    requires { ⌜ (k < maxDetails) × (length (now words) ≡ width) ⌝ }
+    ensures { λ r. ⌜ RowPut k (drop at (now (piece .entry))) (now (words .entry)) r (now (words .exit)) ⌝ }
+{
+    let Direct::Line(a, b, c, d, len) = read_direct(piece, at, k) else {
+        return put_any(words, piece, at, k);
+    };
+    put_four(words, k, a, b, c, d);
+    len + 1
+}
+
 // Detail rows from the place where a line begins, as many as read directly, but not the day's last: the registry checks follow that one.
 pub fn read_rows(p: Progress, lines: u32, piece: &[u8], at: usize, words: &mut [u32]) -> RowsRead
     requires { ⌜ Few p × (headerRows ≤ p .read) × (at ≤ length (now piece)) × (lines + (length (now piece) - at) ≤ byteLimit) × (length (now words) ≡ width) ⌝ }
@@ -118,11 +143,11 @@ pub fn read_rows(p: Progress, lines: u32, piece: &[u8], at: usize, words: &mut [
     let mut n = lines;
     let mut e = at;
     while k < stop {
-        let Direct::Line(a, b, c, d, len) = read_direct(piece, e, k) else {
+        let size = put_row(words, piece, e, k);
+        if size == 0 {
             return rows_read(p, HEADER_ROWS + k, n, e);
-        };
-        put_four(words, k, a, b, c, d);
-        e = e + len + 1;
+        }
+        e += size;
         n += 1;
         k += 1;
     }

@@ -3,10 +3,10 @@
 use Prim.Native.Nat.{_-_, _≤_}
 use native.Mathlib.Omega.{arith}
 use borrow.Author.Needs.{needs}
-use Rattle.pieces.proofs.DirectRows.{line-said, line-within, rows-begin, rows-again}
-use Rattle.pieces.proofs.rows.read_rows.Statement.{statement}
-use Rattle.pieces.specs.Ran.{RowsRan, readTo}
 use Rattle.plain.specs.Rows.{maxDetails}
+use Rattle.pieces.specs.Ran.{RowsRan, readTo}
+use Rattle.pieces.proofs.DirectRows.{rows-begin, put-within, put-again, put-none}
+use Rattle.pieces.proofs.rows.read_rows.Statement.{statement}
 use Rattle.pieces.proofs.rows.read_rows.Tie as tie
 
 abbrev Inv-loop : tie.InvT-loop
@@ -22,16 +22,10 @@ sub-k : tie.Need-sub-k Inv-loop μ-loop
 sub-k c = search needs
 
 loop-holds : tie.Need-loop-holds Inv-loop μ-loop
-loop-holds c = (rows-begin _ _ _ _ _ ((c .before .before .before .before .pre .1)) ((c .before .before .before .before .pre .2)) ((c .before .before .before .before .pre .3)) ((c .before .before .before .before .pre .4)), omega arith)
+loop-holds c = (rows-begin _ _ _ _ _ (c .before .before .before .before .pre .1) (c .before .before .before .before .pre .2) (c .before .before .before .before .pre .3) (c .before .before .before .before .pre .4), omega arith)
 
-read-direct-requires : tie.Need-read-direct-requires Inv-loop μ-loop
-read-direct-requires c κs = search needs
-
-enum-known-a : tie.Need-enum-known-a Inv-loop μ-loop
-enum-known-a c = search needs
-
-enum-told : tie.Need-enum-told Inv-loop μ-loop
-enum-told c = search needs
+put-row-requires : tie.Need-put-row-requires Inv-loop μ-loop
+put-row-requires c κs = search needs
 
 add-rows-read : tie.Need-add-rows-read Inv-loop μ-loop
 add-rows-read c = search needs
@@ -43,16 +37,10 @@ same-length : tie.Need-same-length Inv-loop μ-loop
 same-length c = search needs
 
 returns : tie.Need-returns Inv-loop μ-loop
-returns c = rw ((c .rows-read .ensures)) ((c .before .before .before .before .before .loop .inv .0))
-
-put-four-requires : tie.Need-put-four-requires Inv-loop μ-loop
-put-four-requires c κs = search needs
+returns c = rw (c .rows-read .ensures) (put-none _ _ _ _ _ _ _ _ _ (c .before .before .before .before .before .before .before .loop .inv .0) _ _ (c .before .before .before .before .put-row .ensures) (c .before .if1 .taken))
 
 add-e : tie.Need-add-e Inv-loop μ-loop
-add-e c = omega (arith, (c .before .before .before .before .before .before .before .before .before .before .before .before .before .before .good .1 .1 .0 .0), line-within _ _ _ _ _ _ _ _ _ ((c .before .before .before .before .before .before .before .before .before .loop .inv .0)) _ _ (line-said _ _ _ _ _ _ _ _ ((c .before .before .before .before .before .before .before .read-direct .ensures)) ((c .before .before .before .before .before .a .given .1))))
-
-add-e-2 : tie.Need-add-e-2 Inv-loop μ-loop
-add-e-2 c = omega (arith, (c .before .before .before .before .before .before .before .before .before .before .before .before .before .before .good .1 .1 .0 .0), line-within _ _ _ _ _ _ _ _ _ ((c .before .before .before .before .before .before .before .before .before .loop .inv .0)) _ _ (line-said _ _ _ _ _ _ _ _ ((c .before .before .before .before .before .before .before .read-direct .ensures)) ((c .before .before .before .before .before .a .given .1))))
+add-e c = omega (arith, (c .before .before .before .before .before .before .before .before .before .before .before .good .1 .1 .0 .0), put-within _ _ _ _ _ _ _ _ _ (c .before .before .before .before .before .before .loop .inv .0) _ _ (c .before .before .before .put-row .ensures) (c .if1 .left))
 
 add-n : tie.Need-add-n Inv-loop μ-loop
 add-n c = search needs
@@ -64,7 +52,7 @@ loop-less : tie.Need-loop-less Inv-loop μ-loop
 loop-less c = search needs
 
 loop-again : tie.Need-loop-again Inv-loop μ-loop
-loop-again c = (rows-again _ _ _ _ _ _ _ _ _ ((c .before .before .before .before .before .before .before .before .before .loop .inv .0)) _ _ (line-said _ _ _ _ _ _ _ _ ((c .before .before .before .before .before .before .before .read-direct .ensures)) ((c .before .before .before .before .before .a .given .1))) (omega arith) (omega arith) _ ((c .before .before .put-four .ensures)) (omega (arith, (c .before .words .given))), omega arith)
+loop-again c = (put-again _ _ _ _ _ _ _ _ _ (c .before .before .before .before .before .before .loop .inv .0) _ _ (c .before .before .before .put-row .ensures) (c .if1 .left) (omega arith) (omega arith), omega arith)
 
 add-rows-read-2 : tie.Need-add-rows-read-2 Inv-loop μ-loop
 add-rows-read-2 c = search needs
@@ -76,7 +64,7 @@ same-length-2 : tie.Need-same-length-2 Inv-loop μ-loop
 same-length-2 c = search needs
 
 returns-2 : tie.Need-returns-2 Inv-loop μ-loop
-returns-2 c = rw ((c .rows-read2 .ensures)) ((c .before .before .loop .inv .0))
+returns-2 c = rw (c .rows-read2 .ensures) (c .before .before .loop .inv .0)
 
 pub read-rows-spec : {M : Type 1} → statement M
 read-rows-spec =
@@ -87,16 +75,12 @@ read-rows-spec =
     before-last-requires
     sub-k
     loop-holds
-    read-direct-requires
-    enum-known-a
-    enum-told
+    put-row-requires
     add-rows-read
     rows-read-requires
     same-length
     returns
-    put-four-requires
     add-e
-    add-e-2
     add-n
     add-k
     loop-less
