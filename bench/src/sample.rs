@@ -183,6 +183,16 @@ pub fn file(rng: &mut Rng, world: &World, values: Values, damaged: usize) -> Vec
     file
 }
 
+/// The same file with a CR before each LF.
+pub fn with_crs(file: &[u8]) -> Vec<u8> {
+    let mut with = Vec::with_capacity(file.len() * 21 / 20);
+    for line in file.split_inclusive(|&b| b == b'\n') {
+        with.extend(&line[..line.len() - 1]);
+        with.extend(b"\r\n");
+    }
+    with
+}
+
 /// Damages a record's lines in one of the ways that happen.
 pub fn damage(rng: &mut Rng, lines: &mut Vec<Vec<u8>>) {
     let i = rng.below(lines.len());

@@ -154,16 +154,28 @@ fn show_calls(what: &str, calls: usize, runs: usize, mut call: impl FnMut(bool, 
     show(what, calls as f64, &times);
 }
 
-/// Loads of three files, the first given; the table as the last left it.
-fn loads(rng: &mut Rng, world: &World, file: Vec<u8>, runs: usize) -> Vec<u32> {
-    let mut job = Job::new(world, file);
-    for (size, name) in [(4096, "4 KiB"), (65536, "64 KiB"), (1 << 20, "1 MiB")] {
-        show_load(&format!("load, pieces of {name}, MB/s"), &mut job, size, runs);
+const SIZES: [(usize, &str); 3] = [(4096, "4 KiB"), (65536, "64 KiB"), (1 << 20, "1 MiB")];
+
+/// Loads of four files, the first given, in pieces of each size; the table as the last left it.
+fn loads(rng: &mut Rng, world: &World, realistic: Vec<u8>, runs: usize) -> Vec<u32> {
+    let every_length = sample::file(rng, world, Values::EveryLength, 0);
+    let damaged = sample::file(rng, world, Values::Usual, 50);
+    let with_crs = sample::with_crs(&realistic);
+    let mut job = Job::new(world, realistic);
+    let files = [
+        ("realistic", None),
+        ("values of every length", Some(every_length)),
+        ("5 % of records damaged", Some(damaged)),
+        ("realistic, lines end with CR LF", Some(with_crs)),
+    ];
+    for (name, file) in files {
+        if let Some(file) = file {
+            job.file = file;
+        }
+        for (size, pieces) in SIZES {
+            show_load(&format!("load, {name}, {pieces}, MB/s"), &mut job, size, runs);
+        }
     }
-    job.file = sample::file(rng, world, Values::EveryLength, 0);
-    show_load("load, values of every length, 1 MiB, MB/s", &mut job, 1 << 20, runs);
-    job.file = sample::file(rng, world, Values::Usual, 50);
-    show_load("load, 5 % of records damaged, 1 MiB, MB/s", &mut job, 1 << 20, runs);
     job.table
 }
 

@@ -27,6 +27,12 @@ fn narrow(x: usize) -> u32
     x as u32
 }
 
+fn wide(x: u16) -> u32
+    ensures { λ r. ⌜ r ≡ x ⌝ }
+{
+    x as u32
+}
+
 // The number of a date's day, from 20070101 = 0.
 pub enum Day {
     Number(u32),
@@ -77,12 +83,20 @@ pub fn is_clock(clock: u32) -> bool
     (clock / 10000 <= 23) & (clock / 100 % 100 <= 59) & (clock % 100 <= 59)
 }
 
-// The day number of the first day of month k, from January 2007 = 0.
-fn first_day(k: usize) -> u32
+// The table's entry for month k, from January 2007 = 0.
+fn entry(k: usize) -> u16
     requires { ⌜ k < months ⌝ }
     ensures { λ r. ⌜ r ≡ firstDay k ⌝ }
 {
     FIRST_DAYS[k]
+}
+
+// The day number of that month's first day.
+fn first_day(k: usize) -> u32
+    requires { ⌜ k < months ⌝ }
+    ensures { λ r. ⌜ r ≡ firstDay k ⌝ }
+{
+    wide(entry(k))
 }
 
 // The number of a date's day.

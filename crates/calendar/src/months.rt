@@ -1,5 +1,6 @@
-// The day number of the first day of each month, January 2007 to December 2099; a comment ends each year.
-pub const FIRST_DAYS: [u32; 1116] = [
+// The day number of the first day of each month, January 2007 to December 2099; a comment ends each year. The numbers are as narrow as they can be:
+// a table is made on the stack wherever it is indexed.
+pub const FIRST_DAYS: [u16; 1116] = [
     0,
     31,
     59,

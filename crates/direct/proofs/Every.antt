@@ -1,4 +1,4 @@
--- Classes of bytes: a class within another, a text behind another, and the classes of a detail line's bytes.
+-- Classes of bytes: the parts of a text, and the classes of a detail line's bytes.
 -- Assumes nothing.
 use mathlib.Core.Path.{_≡_, refl}
 use mathlib.Core.List.{[], _∷_, _++_}
@@ -9,18 +9,14 @@ use borrow.Author.Tests.{ne-eqb}
 use Rattle.text.specs.Byte.{Bytes, isDigit, every}
 use Rattle.text.specs.Field.{comma}
 use Rattle.text.proofs.Truth.{apart, and-left, and-right, and-both}
+use Rattle.text.proofs.Class.{every-wider}
 use Rattle.lines.specs.Line.{LF, CR, notLF}
+use Rattle.lines.proofs.Ended.{notCR}
 use Rattle.direct.specs.Guess.{inValue}
 
 -- `inLine`: neither LF nor CR
 abbrev pub inLine : ℕ → Bool
 inLine b = not (eqb b LF || eqb b CR)
-
-every-within : (class wider : ℕ → Bool) → ((b : ℕ) → class b ≡ true → wider b ≡ true) → (s : Bytes) → every class s ≡ true → every wider s ≡ true
-unfolding every
-every-within class wider g [] h = refl
-every-within class wider g (b ∷ s) h =
-    and-both (wider b) (every wider s) (g b (and-left (class b) (every class s) h)) (every-within class wider g s (and-right (class b) (every class s) h))
 
 -- the two parts of a text
 pub every-front : (class : ℕ → Bool) (a b : Bytes) → every class (a ++ b) ≡ true → every class a ≡ true
@@ -35,7 +31,7 @@ every-behind class [] b h = h
 every-behind class (x ∷ a) b h = every-behind class a b (and-right (class x) (every class (a ++ b)) h)
 
 pub digits-plain : (s : Bytes) → every isDigit s ≡ true → every inValue s ≡ true
-digits-plain s h = every-within isDigit inValue (λ b g. rw g) s h
+digits-plain s h = every-wider isDigit inValue (λ b g. rw g) s h
 
 -- a byte of a value is no byte that is none
 plain-not : (b c : ℕ) → inValue b ≡ true → inValue c ≡ false → eqb b c ≡ false
@@ -45,14 +41,18 @@ pub plain-comma : (b : ℕ) → inValue b ≡ true → eqb b comma ≡ false
 plain-comma b h = plain-not b comma h refl
 
 pub plain-line : (s : Bytes) → every inValue s ≡ true → every inLine s ≡ true
-plain-line s h = every-within inValue inLine (λ b g. rw (plain-not b LF g refl, plain-not b CR g refl)) s h
+plain-line s h = every-wider inValue inLine (λ b g. rw (plain-not b LF g refl, plain-not b CR g refl)) s h
 
 pub line-LF : (s : Bytes) → every inLine s ≡ true → every notLF s ≡ true
-line-LF s h = every-within inLine notLF (λ b g. no-left (eqb b LF) (eqb b CR) g) s h
+line-LF s h = every-wider inLine notLF (λ b g. no-left (eqb b LF) (eqb b CR) g) s h
   where
     no-left : (p q : Bool) → not (p || q) ≡ true → not p ≡ true
     no-left true q g = g
     no-left false q g = refl
 
-pub line-CR : (b : ℕ) → inLine b ≡ true → eqb b CR ≡ false
-line-CR b h = ne-eqb b CR (λ e. apart (rw e at h))
+pub line-CR : (s : Bytes) → every inLine s ≡ true → every notCR s ≡ true
+line-CR s h = every-wider inLine notCR (λ b g. no-right (eqb b LF) (eqb b CR) g) s h
+  where
+    no-right : (p q : Bool) → not (p || q) ≡ true → not q ≡ true
+    no-right true q g = absurd (apart g)
+    no-right false q g = g

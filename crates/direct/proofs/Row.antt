@@ -1,20 +1,23 @@
 -- A whole detail line, interval after interval, and that the row's rule gives the same for it.
 -- Assumes nothing.
 use mathlib.Core.Path.{_≡_, refl, ap, sym, _∙_}
-use mathlib.Core.List.{List, [], _∷_, _++_, append-assoc}
-use mathlib.Core.Bool.{Bool, true, false, not}
+use mathlib.Core.List.{List, [], _∷_, _++_, append-assoc, append-nil}
+use mathlib.Core.Bool.{Bool, true, false, not, _&&_}
 use Prim.Native.Nat.{ℕ, suc, _+_, _*_, _/_, _%_, _<_, _≤_}
+use native.Mathlib.Numerals.{add-one}
 use native.Mathlib.Omega.{arith}
+use lib.Dec.{eqb}
 use lib.ListN.{length, take, drop, getD, length-take}
-use lib.Seq.{getD-take, take-add, take-take, drop-drop}
-use borrow.Author.Tests.{eq-eqb, le-ltb, not-false}
+use lib.Seq.{getD-take, take-add, take-suc, take-take, drop-drop, length-take-le}
+use borrow.Author.Tests.{eq-eqb, eqb-true, le-ltb, not-false}
 use Rattle.text.specs.Byte.{Bytes, every, equals, startsWith}
 use Rattle.text.specs.Field.{comma, cut, inFront}
 use Rattle.text.specs.Number.{digitsOf}
-use Rattle.text.proofs.Truth.{and-left, and-right}
+use Rattle.text.proofs.Truth.{apart, and-left, and-right}
 use Rattle.text.proofs.Class.{digit-of}
 use Rattle.text.proofs.Equal.{equals-refl}
-use Rattle.lines.specs.Line.{LF, dropCR, endsWithCR, endedLine, isLong, lineLimit, kindOf}
+use Rattle.lines.specs.Line.{LF, CR, notLF, endedLine, crSize, isLong, lineLimit, kindOf}
+use Rattle.lines.proofs.Ended.{ended-plain, ended-cr}
 use Rattle.lines.specs.Outcome.{passed}
 use Rattle.lines.specs.Row.{fieldsOf}
 use Rattle.text.specs.Byte.{isEmpty}
@@ -22,11 +25,11 @@ use Rattle.details.specs.Value.{valueOf}
 use Rattle.details.specs.Detail.{detailCode, statusOf, withEmpty, intervalOf, fourOf, detailOf, rowDetail}
 use Rattle.details.specs.declared.detail.Interval.{Interval}
 use Rattle.direct.specs.Direct.{DetailLine, directSays}
-use Rattle.direct.specs.Guess.{codeSize, windowSize, tailSize, tail, statusByte, inValue, valueSize, HasTriple, tripleSays}
+use Rattle.direct.specs.Guess.{codeSize, windowSize, tailSize, tail, statusByte, inValue, valueSize, HasTriple, tripleSays, EndsAt}
 use Rattle.direct.specs.declared.Direct.{Direct}
 use Rattle.direct.specs.declared.Direct.the-variants.{Line, Other}
-use Rattle.direct.specs.declared.Triple.{Triple}
-use Rattle.direct.specs.declared.Triple.the-variants.{Read}
+use Rattle.direct.specs.declared.triple.Triple.{Triple}
+use Rattle.direct.specs.declared.triple.Triple.the-variants.{Read}
 use Rattle.text.proofs.Class.{every-append}
 use Rattle.direct.proofs.Every.{inLine, plain-comma, plain-line, line-LF, line-CR}
 
@@ -142,22 +145,14 @@ line-on k t at end is i so-far h =
       gives = gives-more (so-far .rest) is x i (so-far .gives) next;
     }
 
--- THE LINE READ: it has no CR to drop, and is not long
-drop-none : (s : Bytes) → every inLine s ≡ true → dropCR s ≡ s
-unfolding dropCR every
-drop-none [] h = refl
-drop-none (b ∷ []) h = rw (line-CR b (and-left (inLine b) true h))
-drop-none (b ∷ (c ∷ s)) h = ap (λ r. b ∷ r) (drop-none (c ∷ s) (and-right (inLine b) (every inLine (c ∷ s)) h))
-
-ends-none : (s : Bytes) → every inLine s ≡ true → endsWithCR s ≡ false
-unfolding endsWithCR every
-ends-none [] h = refl
-ends-none (b ∷ []) h = line-CR b (and-left (inLine b) true h)
-ends-none (b ∷ (c ∷ s)) h = ends-none (c ∷ s) (and-right (inLine b) (every inLine (c ∷ s)) h)
-
+-- THE LINE READ: it is not long
 code-plain : (k : ℕ) → every inValue (detailCode k) ≡ true
 unfolding digitsOf every
 code-plain k = rw (digit-of _ (k / 10 % 10) refl (omega arith), digit-of _ (k % 10) refl (omega arith))
+
+size-cr : (cr : Bool) → crSize cr ≤ 1
+size-cr true = omega arith
+size-cr false = omega arith
 
 module _ (k : ℕ) (t : Bytes) (at : ℕ) (a b c d : Interval) (so-far : LineSoFar k t at (a ∷ b ∷ c ∷ d ∷ [])) where
   line : Bytes
@@ -172,70 +167,107 @@ module _ (k : ℕ) (t : Bytes) (at : ℕ) (a b c d : Interval) (so-far : LineSoF
   unfolding line
   line-cut = cut-plain (detailCode k) (so-far .rest) (code-plain k)
 
-  line-row : length line ≤ lineLimit → rowDetail k (endedLine line) ≡ passed (a ∷ b ∷ c ∷ d ∷ [])
-  unfolding rowDetail fieldsOf endedLine isLong
-  line-row l =
+  line-row : (cr : Bool) → length line + crSize cr ≤ lineLimit → rowDetail k (record { body = line; cr = cr }) ≡ passed (a ∷ b ∷ c ∷ d ∷ [])
+  unfolding rowDetail fieldsOf isLong
+  line-row cr l =
       rw (
-        drop-none line line-clean,
-        ends-none line line-clean,
-        le-ltb lineLimit (length line + 0) (omega arith),
+        le-ltb lineLimit (length line + crSize cr) l,
         line-cut,
         equals-refl (detailCode k),
         eq-eqb (suc (length (cut (so-far .rest)))) 14 (omega (arith, gives-count (so-far .rest) _ (so-far .gives))),
       )
       (gives-detail (detailCode k) (so-far .rest) a b c d (so-far .gives))
 
-  line-read : at < length t → at ≤ lineLimit → getD t at 0 ≡ LF → DetailLine k t (a ∷ b ∷ c ∷ d ∷ []) at
+  -- with the bytes of its CR, if it has one
+  crBytes : Bool → Bytes
+  crBytes true = CR ∷ []
+  crBytes false = []
+
+  line-ended : (cr : Bool) → endedLine (line ++ crBytes cr) ≡ record { body = line; cr = cr }
+  unfolding crBytes
+  line-ended true = ended-cr line
+  line-ended false = rw append-nil (ended-plain line (line-CR line line-clean))
+
+  line-no-LF : (cr : Bool) → every notLF (line ++ crBytes cr) ≡ true
+  unfolding crBytes every
+  line-no-LF true = every-append notLF line (CR ∷ []) (line-LF line line-clean) refl
+  line-no-LF false = rw append-nil (line-LF line line-clean)
+
+  line-text : (n : ℕ) (cr : Bool) → at < length t → n ≡ at + crSize cr → (cr ≡ true → getD t at 0 ≡ CR) → take n t ≡ line ++ crBytes cr
+  unfolding line crBytes
+  line-text n true within e g = rw (e, add-one at, take-suc t at 0 within, so-far .text, g refl)
+  line-text n false within e g =
+      let z : at + 0 ≡ at = omega arith in
+      rw (e, z, append-nil) (so-far .text)
+
+  line-read : (n : ℕ) → EndsAt t at n → at + 1 < length t → length t ≤ lineLimit → DetailLine k t (a ∷ b ∷ c ∷ d ∷ []) n
   unfolding line kindOf startsWith
-  line-read within short lf = record {
-    within = within;
-    ends = lf;
-    clean = rw (so-far .text) (line-LF line line-clean);
-    kind = rw (so-far .text);
-    row = rw (so-far .text) (line-row (omega (arith, ap length (so-far .text), length-take at t)));
-  }
+  line-read n ends within short =
+      let cr : Bool = ends .cr in
+      let text : take n t ≡ line ++ crBytes cr = line-text n cr (omega arith) (ends .behind) (ends .dropped) in
+      let size : length line ≡ at = ap length (sym (so-far .text)) ∙ length-take-le at t (omega arith) in
+      record {
+        within = omega (arith, ends .behind, size-cr cr);
+        ends = ends .lf;
+        clean = rw text (line-no-LF cr);
+        kind = rw text;
+        row = rw (text, line-ended cr) (line-row cr (omega (arith, size, size-cr cr)));
+      }
+
+-- WHERE IT ENDS
+pub end-here : (t : Bytes) (at : ℕ) → getD t at 0 ≡ LF → EndsAt t at at
+end-here t at e = record { cr = false; behind = omega arith; lf = e; dropped = λ f. absurd (apart f) }
+
+pub end-behind : (t : Bytes) (at : ℕ) → (eqb (getD t at 0) CR && eqb (getD t (at + 1) 0) LF) ≡ true → EndsAt t at (at + 1)
+end-behind t at e = record {
+  cr = true;
+  behind = refl;
+  lf = eqb-true (getD t (at + 1) 0) LF (and-right (eqb (getD t at 0) CR) (eqb (getD t (at + 1) 0) LF) e);
+  dropped = λ f. eqb-true (getD t at 0) CR (and-left (eqb (getD t at 0) CR) (eqb (getD t (at + 1) 0) LF) e);
+}
 
 triple-far : {t : Bytes} {at : ℕ} {i : Interval} {end : ℕ} → HasTriple t at i end → end ≤ at + valueSize + tailSize
 triple-far h = omega (arith, h .ends, h .value .short)
 
 -- THE FOUR STEPS of the reader, whose answers q to q‴ are each an interval and the place behind it
-module _ (t : Bytes) (full : length t ≡ windowSize) (q : Triple) (a : Interval) (e : ℕ) (says : tripleSays q codeSize t) (eq : q ≡ Read a e) where
-  first : HasTriple t codeSize a e
+module _ (t : Bytes) (full : length t ≡ windowSize) (q : Triple) (w : ℕ) (m : Bool) (e : ℕ) (says : tripleSays q codeSize t) (eq : q ≡ Read w m e) where
+  first : HasTriple t codeSize (record { wh = w; estimated = m }) e
   first = rw eq at says
 
   pub room : e + valueSize + tailSize ≤ length t
   room = omega (arith, triple-far first)
 
-  module _ (q′ : Triple) (b : Interval) (e′ : ℕ) (says′ : tripleSays q′ e t) (eq′ : q′ ≡ Read b e′) where
-    second : HasTriple t e b e′
+  module _ (q′ : Triple) (w′ : ℕ) (m′ : Bool) (e′ : ℕ) (says′ : tripleSays q′ e t) (eq′ : q′ ≡ Read w′ m′ e′) where
+    second : HasTriple t e (record { wh = w′; estimated = m′ }) e′
     second = rw eq′ at says′
 
     pub room′ : e′ + valueSize + tailSize ≤ length t
     room′ = omega (arith, triple-far first, triple-far second)
 
-    module _ (q″ : Triple) (c : Interval) (e″ : ℕ) (says″ : tripleSays q″ e′ t) (eq″ : q″ ≡ Read c e″) where
-      third : HasTriple t e′ c e″
+    module _ (q″ : Triple) (w″ : ℕ) (m″ : Bool) (e″ : ℕ) (says″ : tripleSays q″ e′ t) (eq″ : q″ ≡ Read w″ m″ e″) where
+      third : HasTriple t e′ (record { wh = w″; estimated = m″ }) e″
       third = rw eq″ at says″
 
       pub room″ : e″ + valueSize + tailSize ≤ length t
       room″ = omega (arith, triple-far first, triple-far second, triple-far third)
 
-      module _ (q‴ : Triple) (d : Interval) (e‴ : ℕ) (says‴ : tripleSays q‴ e″ t) (eq‴ : q‴ ≡ Read d e‴) where
-        fourth : HasTriple t e″ d e‴
+      module _ (q‴ : Triple) (w‴ : ℕ) (m‴ : Bool) (e‴ : ℕ) (says‴ : tripleSays q‴ e″ t) (eq‴ : q‴ ≡ Read w‴ m‴ e‴) where
+        fourth : HasTriple t e″ (record { wh = w‴; estimated = m‴ }) e‴
         fourth = rw eq‴ at says‴
 
-        pub within : e‴ < length t
+        pub within : e‴ + 1 < length t
         within = omega (arith, triple-far first, triple-far second, triple-far third, triple-far fourth)
 
-        pub line-done : (k : ℕ) (r : Bool) → (r ≡ true → take codeSize t ≡ detailCode k ++ comma ∷ []) → not r ≡ false → getD t e‴ 0 ≡ LF
-            → DetailLine k t (a ∷ b ∷ c ∷ d ∷ []) e‴
-        line-done k r h hr lf =
-            let line : LineSoFar k t e‴ (a ∷ b ∷ c ∷ d ∷ []) =
-            line-on k t e″ e‴ (a ∷ b ∷ c ∷ []) d
-            (line-on k t e′ e″ (a ∷ b ∷ []) c (line-on k t e e′ (a ∷ []) b (line-on k t codeSize e [] a (line-first k t r h hr) first) second) third)
+        pub line-done : (k : ℕ) (r : Bool) → (r ≡ true → take codeSize t ≡ detailCode k ++ comma ∷ []) → not r ≡ false
+            → (n : ℕ) → (0 < n → EndsAt t e‴ n) → (n ≡ 0 → ⊥)
+            → DetailLine k t (record { wh = w; estimated = m } ∷ record { wh = w′; estimated = m′ } ∷ record { wh = w″; estimated = m″ } ∷ record { wh = w‴; estimated = m‴ } ∷ []) n
+        line-done k r h hr n ends some =
+            let line =
+            line-on k t e″ e‴ _ _
+            (line-on k t e′ e″ _ _ (line-on k t e e′ _ _ (line-on k t codeSize e [] _ (line-first k t r h hr) first) second) third)
             fourth
             in
-            line-read k t e‴ a b c d line within (omega (arith, within)) lf
+            line-read k t e‴ _ _ _ _ line n (ends (omega arith)) within (omega arith)
 
 -- A LINE OF THE WINDOW is a line of the piece
 wider : (k m n : ℕ) (s : Bytes) (is : List Interval) → DetailLine k (take m s) is n → DetailLine k s is n

@@ -2,7 +2,7 @@
 -- Assumes nothing.
 use mathlib.Core.Path.{_≡_, refl, ap, sym, _∙_}
 use mathlib.Core.List.{[], _∷_, _++_, append-nil, map}
-use mathlib.Core.Bool.{Bool, true, false, cond, not, _&&_, _||_}
+use mathlib.Core.Bool.{Bool, true, false, cond, not, _&&_}
 use Prim.Native.Nat.{ℕ, zero, suc, _+_, _-_, _*_, _^_, _<_, _≤_}
 use Prim.Native.Char.{code}
 use native.Mathlib.Omega.{arith}
@@ -122,9 +122,6 @@ layout n d l h =
       digit = eqb-false (n - d) 1 (not-true _ (and-right (some && leb d wholeTaken) digit h₃));
     }
 
-pub dot : (f b : ℕ) → (eqb f 0 || eqb b point) ≡ true → 0 < f → b ≡ point
-dot f b h l = eqb-true b point (or-right (eqb f 0) (eqb b point) h (ne-eqb f 0 (λ e. omega arith)))
-
 -- d digits at the front of s, and f bytes behind them, which are none or a point with its digits
 read-by : (s : Bytes) (n d f whole part : ℕ) → n ≡ d + f → n < length s → Layout n d → (0 < f → getD s d 0 ≡ point)
     → Writes 0 (take d s) whole → Writes partDigits (take (f - 1) (drop (d + 1) s)) part → BeginsValue s (whole * 1000 + part) n
@@ -190,13 +187,13 @@ module _ (t : Bytes) (at n d : ℕ) (room : at + valueSize + tailSize ≤ length
         part-long,
       )
 
-  pub value-read : (v : ℕ) (q b : Bool) → (q ≡ true → 0 < n - d → getD t (at + d) 0 ≡ point) → not q ≡ false
-      → (b ≡ true → every isNumeral (bytesOf 8 a) ≡ true) → not b ≡ false → v ≡ tensFrom 0 (bytesOf 8 a) → BeginsValue (drop at t) v n
-  value-read v q b g hq small hb e =
+  pub value-read : (v x : ℕ) (b : Bool) → (0 < n - d → x ≡ point) → getD t (at + d) 0 ≡ x → (b ≡ true → every isNumeral (bytesOf 8 a) ≡ true) → not b ≡ false
+      → v ≡ tensFrom 0 (bytesOf 8 a) → BeginsValue (drop at t) v n
+  value-read v x b g ex small hb e =
       let short : length part ≤ 3 = omega (arith, part-long, y .part) in
       let all : every isNumeral (bytesOf 8 a) ≡ true = small (not-false b hb) in
       rw (e, both-write (5 - d) whole part short (bytesOf 8 a) lined)
-      (read-by s n d (n - d) _ _ (omega (arith, y .inside)) (simp length-drop (omega (arith, y .whole, y .part))) y (λ l. getD-drop at t d 0 ∙ g (not-false q hq) l)
+      (read-by s n d (n - d) _ _ (omega (arith, y .inside)) (simp length-drop (omega (arith, y .whole, y .part))) y (λ l. getD-drop at t d 0 ∙ ex ∙ g l)
       (whole-writes (5 - d) whole part short (bytesOf 8 a) lined all)
       (part-writes (5 - d) whole part short (bytesOf 8 a) lined all))
 
@@ -241,24 +238,20 @@ unfolding bytesOf
 tail-bytes true = refl
 tail-bytes false = refl
 
--- the answer of the value's reader
-module _ (t : Bytes) (at wh n : ℕ) (v : Value) (says : valueSays v (drop at t)) (ev : v ≡ WattHours wh n) where
-  begun : BeginsValue (drop at t) wh n
-  begun = rw ev at says
+-- the answer of either reader of values
+pub value-said : (v : Value) (s : Bytes) (wh n : ℕ) → valueSays v s → v ≡ WattHours wh n → BeginsValue s wh n
+value-said v s wh n says e = rw e at says
 
-  pub value-short : n ≤ valueSize
-  value-short = begun .short
+-- a value of n bytes; x is the word behind it
+module _ (t : Bytes) (at wh n : ℕ) (begun : BeginsValue (drop at t) wh n) (x : ℕ) (word : bytesOf 4 x ≡ take 4 (drop (at + n) t)) where
+  triple-read : (estimated : Bool) → x ≡ tailWord estimated → HasTriple t at (record { wh = wh; estimated = estimated }) (at + n + tailSize)
+  triple-read estimated e = record { n = n; value = begun; behind = sym word ∙ rw e (tail-bytes estimated); ends = refl }
 
-  -- x is the word behind the value
-  module _ (x : ℕ) (word : bytesOf 4 x ≡ take 4 (drop (at + n) t)) where
-    pub triple-read : (estimated : Bool) → x ≡ tailWord estimated → HasTriple t at (record { wh = wh; estimated = estimated }) (at + n + tailSize)
-    triple-read estimated e = record { n = n; value = begun; behind = sym word ∙ rw e (tail-bytes estimated); ends = refl }
-
-    pub triple-either : (not (eqb x (tailWord true)) && not (eqb x (tailWord false))) ≡ false
-        → HasTriple t at (record { wh = wh; estimated = eqb x (tailWord true) }) (at + n + tailSize)
-    triple-either h = go (eqb x (tailWord true)) refl h
-      where
-        go : (e : Bool) → eqb x (tailWord true) ≡ e → (not e && not (eqb x (tailWord false))) ≡ false
-            → HasTriple t at (record { wh = wh; estimated = e }) (at + n + tailSize)
-        go true e g = triple-read true (eqb-true x (tailWord true) e)
-        go false e g = triple-read false (eqb-true x (tailWord false) (not-false _ g))
+  pub triple-either : (not (eqb x (tailWord true)) && not (eqb x (tailWord false))) ≡ false
+      → HasTriple t at (record { wh = wh; estimated = eqb x (tailWord true) }) (at + n + tailSize)
+  triple-either h = go (eqb x (tailWord true)) refl h
+    where
+      go : (e : Bool) → eqb x (tailWord true) ≡ e → (not e && not (eqb x (tailWord false))) ≡ false
+          → HasTriple t at (record { wh = wh; estimated = e }) (at + n + tailSize)
+      go true e g = triple-read true (eqb-true x (tailWord true) e)
+      go false e g = triple-read false (eqb-true x (tailWord false) (not-false _ g))

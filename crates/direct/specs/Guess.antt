@@ -7,21 +7,22 @@ use mathlib.Core.Bool.{Bool, true, false, _||_}
 use Prim.Native.Nat.{ℕ, zero, suc, _+_, _-_, _*_, _/_, _%_, _^_, _≤_, _<_}
 use Prim.Native.Char.{code}
 use lib.Dec.{eqb, leb}
-use lib.ListN.{length, take, drop}
+use lib.ListN.{length, take, drop, getD}
 use Rattle.text.specs.Byte.{Bytes, isDigit, every}
 use Rattle.text.specs.Field.{comma}
 use Rattle.text.specs.Number.{number}
+use Rattle.lines.specs.Line.{LF, CR, crSize}
 use Rattle.lines.specs.Outcome.{passed}
 use Rattle.details.specs.Value.{point, wholeDigits, partDigits, valueOf}
 use Rattle.details.specs.declared.detail.Interval.{Interval}
 use Rattle.direct.specs.declared.guess.Value.{Value}
 use Rattle.direct.specs.declared.guess.Value.the-variants.{WattHours, Other as ValueOther}
-use Rattle.direct.specs.declared.Triple.{Triple}
-use Rattle.direct.specs.declared.Triple.the-variants.{Read, Other as TripleOther}
+use Rattle.direct.specs.declared.triple.Triple.{Triple}
+use Rattle.direct.specs.declared.triple.Triple.the-variants.{Read, Other as TripleOther}
 
 -- the bytes that are looked at; every line that is taken ends within them
 abbrev pub windowSize : ℕ
-windowSize = 66
+windowSize = 67
 
 -- a detail line's code with its comma
 abbrev pub codeSize : ℕ
@@ -102,5 +103,12 @@ pub record HasTriple (s : Bytes) (at : ℕ) (i : Interval) (end : ℕ) : Type 0 
   pub ends : end ≡ at + n + tailSize
 
 abbrev pub tripleSays : Triple → ℕ → Bytes → Type 0
-tripleSays (Read i end) at s = HasTriple s at i end
+tripleSays (Read wh estimated end) at s = HasTriple s at (record { wh = wh; estimated = estimated }) end
 tripleSays TripleOther at s = Unit {0}
+
+-- a line whose intervals end at a place has its LF at n: there, or behind a CR
+pub record EndsAt (s : Bytes) (at n : ℕ) : Type 0 where
+  pub cr : Bool
+  pub behind : n ≡ at + crSize cr
+  pub lf : getD s n 0 ≡ LF
+  pub dropped : cr ≡ true → getD s at 0 ≡ CR

@@ -61,11 +61,11 @@ fn has_layout(n: usize, d: usize) -> bool
     (n != 0) & (d <= WHOLE_TAKEN) & (f != 1) & (f <= PART_DIGITS + 1)
 }
 
-// Whether the byte at d is the point, if there is to be one: f bytes stand at d and behind.
-fn dotted(f: usize, b: u8) -> bool
-    ensures { λ r. ⌜ (r ≡ true → 0 < f → b ≡ point) ⌝ }
+// What ends the digits before the point, of a value with f bytes behind them: the point, or the comma behind the value.
+fn stop_byte(f: usize) -> u8
+    ensures { λ r. ⌜ (0 < f → r ≡ point) ⌝ }
 {
-    (f == 0) | (b == b'.')
+    if f == 0 { b',' } else { b'.' }
 }
 
 // The value at a place. One that goes on behind the word is cut there: its comma will be missed.
@@ -79,7 +79,7 @@ pub fn read_value(t: &[u8], at: usize) -> Value
     if !has_layout(n, d) {
         return Value::Other;
     }
-    if !dotted(n - d, t[at + d]) {
+    if t[at + d] != stop_byte(n - d) {
         return Value::Other;
     }
     let a = aligned(w ^ ZEROS, n, d);

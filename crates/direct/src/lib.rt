@@ -1,8 +1,8 @@
 // The fast way through a detail line: the whole line is read straight on the piece, with no search for its LF and no cutting into fields.
 //
 // It takes the common lines, whose values have at most eight bytes and five digits before the point; `any::read_any` takes values of any
-// length, and is for a line that is left. Both want 66 bytes of the piece, the longest such line. For any other, right or wrong, they answer
-// `Other`, and the plain reader of `details` decides:
+// length, and is for a line that is left. Both take lines with and without a CR, and want 67 bytes of the piece, the longest such line. For any
+// other, right or wrong, they answer `Other`, and the plain reader of `details` decides:
 //
 //     match direct::read_direct(piece, at, k) {
 //         Direct::Line(a, b, c, d, n) => ..   // n bytes at `at`, then LF: detail line k with these intervals
@@ -11,26 +11,26 @@
 //
 // For whoever changes it: what `Line` owes is specs/Direct.antt, which cites the row's rule in details; `Other` owes nothing, so a reader that
 // takes fewer lines is slower and still right. The shape was chosen by measuring: bytes tested and digits read several at once, in a word,
-// the four intervals one after another with no loop, and a window of fixed size, of which every index is proved to be inside. `Triple` has the
-// place behind an interval apart from its watt hours: the next interval waits for nothing but the place. `read_direct` has to stay small: the
-// compiler makes it a part of its caller's loop (any.rt has what it costs otherwise).
+// the four intervals one after another with no loop, and a window of fixed size, of which every index is proved to be inside. `read_direct` has to
+// stay small: the compiler makes it a part of its caller's loop (any.rt has what it costs otherwise).
 ghost use mathlib.Core.Path.{_≡_};
 ghost use mathlib.Core.Bool.{true};
 ghost use mathlib.Core.List.{[], _∷_, _++_};
-ghost use Prim.Native.Nat.{_+_, _≤_};
+ghost use Prim.Native.Nat.{_+_, _<_, _≤_};
 ghost use lib.ListN.{length, take, drop};
 ghost use Rattle.text.specs.Field.{comma};
 ghost use Rattle.details.specs.Detail.{detailCode};
 ghost use Rattle.direct.specs.Direct.{directSays};
-ghost use Rattle.direct.specs.Guess.{windowSize, codeSize, valueSize, tailSize, tripleSays};
-use crate::guess::Value;
-use crate::guess::read_value;
-use crate::word::four;
+ghost use Rattle.direct.specs.Guess.{windowSize, codeSize, EndsAt};
+use crate::triple::Triple;
+use crate::triple::read_triple;
 use details::detail::Interval;
+use lines::line::CR;
 use lines::line::LF;
 
 pub mod any;
 mod guess;
+mod triple;
 mod word;
 
 // A whole detail line, of so many bytes before its LF; or it is for the plain reader.
@@ -39,56 +39,10 @@ pub enum Direct {
     Other,
 }
 
-// Value, status and empty field, and the place behind them; or it is for the plain reader.
-enum Triple {
-    Read(Interval, usize),
-    Other,
-}
-
-const WINDOW: usize = 66;
+const WINDOW: usize = 67;
 
 // A detail line's code with its comma.
 const CODE: usize = 9;
-
-// Behind a value: comma, status, comma, the empty field, comma; and these as words, ",A,," and ",E,,".
-const TAIL: usize = 4;
-
-const ACTUAL: u32 = 0x2c2c412c;
-
-const ESTIMATED: u32 = 0x2c2c452c;
-
-// Value, status and empty field at a place of the window.
-fn read_triple(t: &[u8], at: usize) -> Triple
-    requires { ⌜ at + valueSize + tailSize ≤ length (now t) ⌝ }
-    ensures { λ r. ⌜ tripleSays r at (now (t .entry)) ⌝ }
-{
-    let v = read_value(t, at);
-    let Value::WattHours(wh, n) = v else {
-        return Triple::Other;
-    };
-    let behind = at + n;
-    let end = behind + TAIL;
-    let s = four(t, behind);
-    if s == ACTUAL {
-        return Triple::Read(
-            Interval {
-                wh,
-                estimated: false,
-            },
-            end,
-        );
-    }
-    if s == ESTIMATED {
-        return Triple::Read(
-            Interval {
-                wh,
-                estimated: true,
-            },
-            end,
-        );
-    }
-    Triple::Other
-}
 
 // Whether the window begins with the code of detail row k and a comma.
 fn begins_code(t: &[u8], k: u32) -> bool
@@ -108,6 +62,20 @@ fn begins_code(t: &[u8], k: u32) -> bool
         & (t[8] == b',')
 }
 
+// Where the line has its LF whose intervals end at a place: there, or behind a CR. 0, if it goes on.
+fn line_end(t: &[u8], at: usize) -> usize
+    requires { ⌜ at + 1 < length (now t) ⌝ }
+    ensures { λ r. ⌜ (0 < r → EndsAt (now (t .entry)) at r) ⌝ }
+{
+    if t[at] == LF {
+        return at;
+    }
+    if (t[at] == CR) & (t[at + 1] == LF) {
+        return at + 1;
+    }
+    0
+}
+
 // A detail line k, with its LF, at the front of the window.
 fn read_line(t: &[u8], k: u32) -> Direct
     requires { ⌜ length (now t) ≡ windowSize ⌝ }
@@ -117,25 +85,30 @@ fn read_line(t: &[u8], k: u32) -> Direct
         return Direct::Other;
     }
     let q = read_triple(t, CODE);
-    let Triple::Read(a, at) = q else {
+    let Triple::Read(wh, estimated, at) = q else {
         return Direct::Other;
     };
+    let a = Interval { wh, estimated };
     let q = read_triple(t, at);
-    let Triple::Read(b, at) = q else {
+    let Triple::Read(wh, estimated, at) = q else {
         return Direct::Other;
     };
+    let b = Interval { wh, estimated };
     let q = read_triple(t, at);
-    let Triple::Read(c, at) = q else {
+    let Triple::Read(wh, estimated, at) = q else {
         return Direct::Other;
     };
+    let c = Interval { wh, estimated };
     let q = read_triple(t, at);
-    let Triple::Read(d, at) = q else {
+    let Triple::Read(wh, estimated, at) = q else {
         return Direct::Other;
     };
-    if t[at] == LF {
-        return Direct::Line(a, b, c, d, at);
+    let d = Interval { wh, estimated };
+    let n = line_end(t, at);
+    if n == 0 {
+        return Direct::Other;
     }
-    Direct::Other
+    Direct::Line(a, b, c, d, n)
 }
 
 // A detail line k, with its LF, at a place of the piece.

@@ -1,4 +1,5 @@
 -- Laws of the definitions, by subject; each function's proof cites them.
 pub mod Lines
 pub mod Begin
+pub mod Ended
 pub mod Passing

@@ -4,12 +4,12 @@ ghost use Rattle.lines.specs.Line.{endsWithCR, dropCR, isLong, kindOf};
 ghost use Rattle.lines.specs.Answer.{lineOf};
 use text::bytes::begins;
 
-// The most bytes of a line that is not long, its CR included.
 pub const LF: u8 = b'\n';
 
-pub const LINE_LIMIT: usize = 200;
+pub const CR: u8 = 13;
 
-const CR: u8 = 13;
+// The most bytes of a line that is not long, its CR included.
+pub const LINE_LIMIT: usize = 200;
 
 pub enum Kind {
     Empty,

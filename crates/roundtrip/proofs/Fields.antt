@@ -11,12 +11,13 @@ use borrow.Author.Tests.{eq-eqb, ne-eqb, leb-true, leb-false, ltb-true, le-leb, 
 use Rattle.text.specs.Byte.{Bytes, isDigit, isAlnum, every}
 use Rattle.text.specs.Field.{comma, cut}
 use Rattle.text.proofs.Truth.{and-left, and-right, and-both, apart}
-use Rattle.text.proofs.Class.{every-append, digit-low}
+use Rattle.text.proofs.Class.{every-append, every-wider, digit-low}
 use Rattle.text.proofs.Equal.{equals-refl}
-use Rattle.lines.specs.Line.{Line, LF, CR, NoLF, notLF, endsWithCR, dropCR, endedLine, lineLimit}
+use Rattle.lines.specs.Line.{Line, LF, CR, NoLF, notLF, endedLine, lineLimit}
 use Rattle.lines.specs.Outcome.{passed}
 use Rattle.lines.specs.Row.{fieldsOf}
 use Rattle.lines.proofs.Lines.{ended-long}
+use Rattle.lines.proofs.Ended.{notCR, ended-plain}
 use Rattle.rowtext.specs.Text.{joined}
 
 -- ---- THE BYTES OF FIELDS AND LINES
@@ -36,13 +37,6 @@ infixr 20 _also_
 pub data AllPlain : List Bytes → Type 0 where
   none : AllPlain []
   _also_ : {f : Bytes} {fs : List Bytes} → Plain f → AllPlain fs → AllPlain (f ∷ fs)
-
--- one class within another
-pub every-wider : (p q : ℕ → Bool) → ((b : ℕ) → p b ≡ true → q b ≡ true) → (s : Bytes) → every p s ≡ true → every q s ≡ true
-unfolding every
-every-wider p q w [] h = refl
-every-wider p q w (b ∷ s) h =
-    and-both (q b) (every q s) (w b (and-left (p b) (every p s) h)) (every-wider p q w s (and-right (p b) (every p s) h))
 
 pub digits-plain : (s : Bytes) → every isDigit s ≡ true → Plain s
 digits-plain s h = every-wider isDigit inField (λ b e. lt-ltb comma b (omega (arith, digit-low b e))) s h
@@ -90,30 +84,14 @@ line-no-LF s h = every-wider inLine notLF (λ b e. ap not (ne-eqb b LF (λ q. om
 pub joined-no-LF : (fs : List Bytes) → AllPlain fs → NoLF (joined fs)
 joined-no-LF fs h = line-no-LF (joined fs) (joined-line fs h)
 
-not-CR : (b : ℕ) → inLine b ≡ true → eqb b CR ≡ false
-not-CR b h = ne-eqb b CR (λ e. omega (arith, leb-true comma b h))
-
-ends-plain : (s : Bytes) → every inLine s ≡ true → endsWithCR s ≡ false
-unfolding endsWithCR every
-ends-plain [] h = refl
-ends-plain (b ∷ []) h = not-CR b (and-left (inLine b) true h)
-ends-plain (b ∷ (c ∷ s)) h = ends-plain (c ∷ s) (and-right (inLine b) (every inLine (c ∷ s)) h)
-
-drop-plain : (s : Bytes) → every inLine s ≡ true → dropCR s ≡ s
-unfolding dropCR every
-drop-plain [] h = refl
-drop-plain (b ∷ []) h = rw (not-CR b (and-left (inLine b) true h))
-drop-plain (b ∷ (c ∷ s)) h = ap (λ r. b ∷ r) (drop-plain (c ∷ s) (and-right (inLine b) (every inLine (c ∷ s)) h))
-
-pub ended-plain : (s : Bytes) → every inLine s ≡ true → endedLine s ≡ record { body = s; cr = false }
-unfolding endedLine
-ended-plain s h = rw (drop-plain s h, ends-plain s h)
+line-no-CR : (s : Bytes) → every inLine s ≡ true → every notCR s ≡ true
+line-no-CR s h = every-wider inLine notCR (λ b e. ap not (ne-eqb b CR (λ q. omega (arith, leb-true comma b e)))) s h
 
 -- ---- ITS ROW'S FIRST TESTS LET IT PASS
 
 module _ (code : Bytes) (fs : List Bytes) (plain : AllPlain (code ∷ fs)) where
   pub joined-ended : endedLine (joined (code ∷ fs)) ≡ record { body = joined (code ∷ fs); cr = false }
-  joined-ended = ended-plain (joined (code ∷ fs)) (joined-line (code ∷ fs) plain)
+  joined-ended = ended-plain (joined (code ∷ fs)) (line-no-CR (joined (code ∷ fs)) (joined-line (code ∷ fs) plain))
 
   pub fields-back : (n : ℕ) → length (code ∷ fs) ≡ n → length (joined (code ∷ fs)) ≤ lineLimit → fieldsOf code n (endedLine (joined (code ∷ fs))) ≡ passed (code ∷ fs)
   unfolding fieldsOf

@@ -59,14 +59,14 @@ enum-told-4 c = search needs
 returns-5 : tie.Need-returns-5
 returns-5 c = search needs
 
-shared-slice-read-if2 : tie.Need-shared-slice-read-if2
-shared-slice-read-if2 c = search within fits 3000
+line-end-requires : tie.Need-line-end-requires
+line-end-requires c κs = search within fits 3000
 
 returns-6 : tie.Need-returns-6
-returns-6 c = search line-done
+returns-6 c = search needs
 
 returns-7 : tie.Need-returns-7
-returns-7 c = search needs
+returns-7 c = search line-done fits 3000
 
 pub read-line-spec : {M : Type 1} → statement M
 read-line-spec =
@@ -90,6 +90,6 @@ read-line-spec =
     enum-known-q-4
     enum-told-4
     returns-5
-    shared-slice-read-if2
+    line-end-requires
     returns-6
     returns-7)

@@ -1,7 +1,7 @@
 -- `direct::guess::read_value` meets its contract.
 -- Assumes nothing.
-use borrow.Author.Tests.{not-false}
 use borrow.Author.Needs.{needs}
+use borrow.Author.Tests.{not-false}
 use Rattle.direct.proofs.Value.{value-read}
 use Rattle.direct.proofs.guess.read_value.Statement.{statement}
 use Rattle.direct.proofs.guess.read_value.Tie as tie
@@ -24,17 +24,17 @@ has-layout-requires c κs = search needs
 returns : tie.Need-returns
 returns c = search needs
 
-sub-dotted : tie.Need-sub-dotted
-sub-dotted c = search needs
+add-if2 : tie.Need-add-if2
+add-if2 c = search needs
 
-add-dotted : tie.Need-add-dotted
-add-dotted c = search needs
+shared-slice-read-if2 : tie.Need-shared-slice-read-if2
+shared-slice-read-if2 c = search needs
 
-shared-slice-read-dotted : tie.Need-shared-slice-read-dotted
-shared-slice-read-dotted c = search needs
+sub-stop-byte : tie.Need-sub-stop-byte
+sub-stop-byte c = search needs
 
-dotted-requires : tie.Need-dotted-requires
-dotted-requires c κs = search needs
+stop-byte-requires : tie.Need-stop-byte-requires
+stop-byte-requires c κs = search needs
 
 returns-2 : tie.Need-returns-2
 returns-2 c = search needs
@@ -52,7 +52,9 @@ number-requires : tie.Need-number-requires
 number-requires c κs = (c .before .all-numerals .ensures) (not-false _ (c .if3 .left))
 
 returns-4 : tie.Need-returns-4
-returns-4 c = search value-read
+returns-4 c =
+    value-read _ _ _ _ (c .before .before .before .before .before .before .before .before .before .before .before .before .before .before .pre) _ (c .before .before .before .before .before .before .before .before .has-layout .ensures) (c .before .before .before .before .before .before .before .if1 .left) _ _ (c .before .before .before .before .before .before .before .before .before .before .before .before .eight .ensures) (c .before .before .before .aligned .ensures) _ _ _ (c .before .before .before .before .before .stop-byte .ensures) (c .before .before .before .before .if2 .left)
+    (c .before .before .all-numerals .ensures) (c .before .if3 .left) (c .number .ensures)
 
 pub read-value-spec : {M : Type 1} → statement M
 read-value-spec =
@@ -64,10 +66,10 @@ read-value-spec =
     least-requires
     has-layout-requires
     returns
-    sub-dotted
-    add-dotted
-    shared-slice-read-dotted
-    dotted-requires
+    add-if2
+    shared-slice-read-if2
+    sub-stop-byte
+    stop-byte-requires
     returns-2
     aligned-requires
     all-numerals-requires

@@ -1,13 +1,13 @@
--- `calendar::first_day` meets its contract: the walk passes the table, which antt computes, so each entry is its month's first day.
+-- `calendar::entry` meets its contract: the walk passes the table, which antt computes, so each entry is its month's first day.
 -- Assumes nothing.
 use mathlib.Core.Path.{refl}
 use borrow.Author.Needs.{needs}
 use Rattle.calendar.specs.Date.{monthLength}
 use Rattle.calendar.proofs.Table.{entry-right}
-use Rattle.calendar.proofs.first_day.Statement.{statement}
-use Rattle.calendar.proofs.first_day.Tie as tie
-use Rattle.calendar.proofs.first_day.Reads as clauses
-use Rattle.calendar.proofs.first_day.Lts as places
+use Rattle.calendar.proofs.entry.Statement.{statement}
+use Rattle.calendar.proofs.entry.Tie as tie
+use Rattle.calendar.proofs.entry.Reads as clauses
+use Rattle.calendar.proofs.entry.Lts as places
 
 mul-result : tie.Need-mul-result
 mul-result c = search needs
@@ -20,5 +20,5 @@ returns : tie.Need-returns
 unfolding monthLength
 returns c = entry-right (places.m1 clauses.Pre clauses.Post (c .args) (c .blocks) .1 .1 .0) refl _ (c .pre)
 
-pub first-day-spec : {M : Type 1} → statement M
-first-day-spec = tie.close (tie.spec mul-result array-read-result returns)
+pub entry-spec : {M : Type 1} → statement M
+entry-spec = tie.close (tie.spec mul-result array-read-result returns)
