@@ -2,7 +2,7 @@
 -- Assumes nothing.
 use mathlib.Core.Path.{_≡_, refl}
 use mathlib.Core.Bool.{Bool, true, false, cond, not, _&&_}
-use Prim.Native.Nat.{ℕ, zero, suc, _+_, _≤_, _<_}
+use Prim.Native.Nat.{ℕ, zero, suc, _+_, _^_, _≤_, _<_}
 use native.Mathlib.Omega.{arith}
 use lib.Dec.{ltb, leb}
 use lib.ListN.{length}
@@ -18,7 +18,7 @@ use Rattle.padded.proofs.Unpad.{unpad-within}
 use Rattle.registry.specs.Registry.{windowIs}
 use Rattle.registry.specs.Index.{meterAt}
 use Rattle.registry.proofs.Laws.{Formed, meter-formed}
-use Rattle.cell.specs.Layout.{Words}
+use Rattle.cell.specs.Layout.{Words, wordBits}
 use Rattle.cell.proofs.SoundParts.{SoundParts, sound-parts}
 use Rattle.cells.specs.Refusal.{badState, badDescriptor, shortOutput}
 use Rattle.cells.specs.Sound.{dayIntervals, soundCell}
@@ -65,7 +65,7 @@ module _ (reg : Bytes) (size : ℕ) (v : View) (c : Call) where
       go (suc n) e = omega arith
 
 pub count-small : (reg : Bytes) (s : State) (t : Words) (asked : Asked) (report : Words) (fed : Fed) (table written : Words)
-    → WordsKeep reg s t asked report fed table written → fed .count < 4294967296
+    → WordsKeep reg s t asked report fed table written → fed .count < 2 ^ wordBits
 count-small reg s t asked report fed table written k =
     let few : fed .count ≤ most = rw (k .keeps .promise .count) (events-few reg (length t) (viewOf s) _) in
     omega arith
@@ -95,14 +95,14 @@ module _ (reg : Bytes) (table : Words) (m c d : ℕ) (descriptor output : Bytes)
       let same : cellText reg m c d descriptor (found .0) ≡ text = cc in
       rw (← same) (record-few (found .0) (found .1) (require-passed (isDescriptor descriptor) badDescriptor (named .0) (named .1)))
 
-  pub length-small : answer (writes reg table m c d descriptor output) .length < 4294967296
+  pub length-small : answer (writes reg table m c d descriptor output) .length < 2 ^ wordBits
   unfolding writes fitting
   length-small = go (recordOf reg table m c d descriptor) refl
     where
-      put : (text : Bytes) (short : Bool) → length text ≤ recordLimit → answer (require (not short) shortOutput >> passed text) .length < 4294967296
+      put : (text : Bytes) (short : Bool) → length text ≤ recordLimit → answer (require (not short) shortOutput >> passed text) .length < 2 ^ wordBits
       put text true h = omega arith
       put text false h = omega arith
 
-      go : (o : Outcome Bytes) → recordOf reg table m c d descriptor ≡ o → answer (fitting output o) .length < 4294967296
+      go : (o : Outcome Bytes) → recordOf reg table m c d descriptor ≡ o → answer (fitting output o) .length < 2 ^ wordBits
       go (passed text) e = put text (ltb (length output) (length text)) (text-few text e)
       go (refused n) e = omega arith

@@ -9,7 +9,8 @@
 // For whoever changes it: a state crosses the border as words, by specs/Layout.antt; whatever they hold, they are some state. A run of another length
 // is refused 1. What the calls do is loader's, estimates' and writer's; here is only how it is asked and answered.
 ghost use mathlib.Core.Path.{_≡_};
-ghost use Prim.Native.Nat.{_<_};
+ghost use Prim.Native.Nat.{_^_, _<_};
+ghost use Rattle.cell.specs.Layout.{wordBits};
 ghost use Rattle.kilnsorrel.specs.Border.{Packs, PacksCounted, PacksWritten, Freshens, Call};
 ghost use Rattle.plain.specs.Call.{feed, finish};
 ghost use Rattle.estimates.specs.Estimates.{estimatesOf};
@@ -27,12 +28,15 @@ use writer::write;
 
 mod state;
 
+// How many numbers half of an answer can be.
+const SPAN: u64 = 4294967296;
+
 // The number in the high half, the count or length in the low one.
 fn packed(number: u32, count: usize) -> u64
-    requires { ⌜ count < 4294967296 ⌝ }
+    requires { ⌜ count < 2 ^ wordBits ⌝ }
     ensures { λ r. ⌜ Packs number count r ⌝ }
 {
-    number as u64 * 4294967296 + count as u64
+    number as u64 * SPAN + count as u64
 }
 
 #[no_mangle]

@@ -18,6 +18,9 @@ use text::names::DUNS_SIZE;
 use text::names::ESI_ID_SIZE;
 use units::Unit;
 
+// How many numbers a word can be.
+const SPAN: usize = 4294967296;
+
 // Where each part begins, behind the kept bytes.
 const NUMBERS_AT: usize = KEPT_LIMIT;
 
@@ -72,7 +75,7 @@ fn wide_in(words: &[u32], at: usize) -> usize
     requires { ⌜ at + 1 < length (now words) ⌝ }
     ensures { λ r. ⌜ r ≡ wideIn (now (words .entry)) at ⌝ }
 {
-    words[at] as usize + words[at + 1] as usize * 4294967296
+    words[at] as usize + words[at + 1] as usize * SPAN
 }
 
 fn channel_in(word: u32) -> Channel
@@ -175,10 +178,10 @@ fn number_words(held: usize, taken: usize, lines: u32) -> [u32; 5]
     ensures { λ r. ⌜ (wideIn r 0 ≡ held) × (wideIn r 2 ≡ taken) × (getD r 4 0 ≡ lines) ⌝ }
 {
     [
-        (held % 4294967296) as u32,
-        (held / 4294967296) as u32,
-        (taken % 4294967296) as u32,
-        (taken / 4294967296) as u32,
+        (held % SPAN) as u32,
+        (held / SPAN) as u32,
+        (taken % SPAN) as u32,
+        (taken / SPAN) as u32,
         lines,
     ]
 }

@@ -20,6 +20,7 @@ ghost use Rattle.plain.specs.Rows.{headerRows, maxDetails, orElse, goesOn, begi
 ghost use Rattle.records.specs.Answer.{rowsOf, rowSays, unlessOn, oneMore, Sized, Few, Indexed};
 ghost use Rattle.records.specs.declared.RowRead.the-variants.{GoesOn};
 use calendar::intervals_on;
+use cell::Cell;
 use cell::begin;
 use cell::put_interval;
 use cell::put_stamp;
@@ -49,8 +50,8 @@ use text::fields::front;
 // Rows two, three, four and thirty.
 pub const HEADER_ROWS: u32 = 4;
 
-// No day has more detail rows.
-pub const MAX_DETAILS: u32 = 25;
+// No day has more detail rows: a cell has room for so many.
+pub const MAX_DETAILS: u32 = Cell::INTERVALS as u32 / PER_ROW;
 
 // A record that takes rows: how many were read behind row one, how many detail rows the day has, and the day as YYYYMMDD.
 pub struct Progress {

@@ -1,7 +1,7 @@
 // Replays the cases of data/: each is a cut, a registry and a file, which is fed in pieces of that many bytes and finished, with a cleared table of
 // 64 cells. It prints what lseload prints, and then each cell that holds a read: its number, words 0 to 6, and the sum of its watt hours.
 ghost use mathlib.Core.Path.{_≡_};
-ghost use Prim.Native.Nat.{_<_};
+ghost use Prim.Native.Nat.{_<_, _≤_};
 ghost use lib.ListN.{length};
 use cell::Cell;
 use cells::refusal::DONE;
@@ -9,7 +9,6 @@ use loader::Fed;
 use loader::fresh;
 use loader::words::feed_words;
 use loader::words::finish_words;
-use print::at_most;
 use print::cell_line;
 use print::entries;
 use print::heading;
@@ -88,6 +87,15 @@ fn cells_of(table: &[u32]) {
         at = end;
         c += 1;
     }
+}
+
+fn at_most(n: usize, most: usize) -> usize
+    ensures { λ r. ⌜ r ≤ most ⌝ }
+{
+    if n < most {
+        return n;
+    }
+    most
 }
 
 fn replay(cut: usize, registry: &[u8], file: &[u8]) {
