@@ -25,11 +25,9 @@ use Rattle.details.specs.Value.{valueOf}
 use Rattle.details.specs.Detail.{detailCode, statusOf, withEmpty, intervalOf, fourOf, detailOf, rowDetail}
 use Rattle.details.specs.declared.detail.Interval.{Interval}
 use Rattle.direct.specs.Direct.{DetailLine, directSays}
-use Rattle.direct.specs.Guess.{codeSize, windowSize, tailSize, tail, statusByte, inValue, valueSize, HasTriple, tripleSays, EndsAt}
+use Rattle.direct.specs.Guess.{codeSize, windowSize, tailSize, tail, statusByte, inValue, valueSize, HasTriple, EndsAt}
 use Rattle.direct.specs.declared.Direct.{Direct}
 use Rattle.direct.specs.declared.Direct.the-variants.{Line, Other}
-use Rattle.direct.specs.declared.triple.Triple.{Triple}
-use Rattle.direct.specs.declared.triple.Triple.the-variants.{Read}
 use Rattle.text.proofs.Class.{every-append}
 use Rattle.direct.proofs.Every.{inLine, plain-comma, plain-line, line-LF, line-CR}
 
@@ -229,45 +227,32 @@ end-behind t at e = record {
 triple-far : {t : Bytes} {at : ℕ} {i : Interval} {end : ℕ} → HasTriple t at i end → end ≤ at + valueSize + tailSize
 triple-far h = omega (arith, h .ends, h .value .short)
 
--- THE FOUR STEPS of the reader, whose answers q to q‴ are each an interval and the place behind it
-module _ (t : Bytes) (full : length t ≡ windowSize) (q : Triple) (w : ℕ) (m : Bool) (e : ℕ) (says : tripleSays q codeSize t) (eq : q ≡ Read w m e) where
-  first : HasTriple t codeSize (record { wh = w; estimated = m }) e
-  first = rw eq at says
-
+-- THE FOUR STEPS of the reader: intervals a to d, and the place behind each
+module _ (t : Bytes) (full : length t ≡ windowSize) (a : Interval) (e : ℕ) (first : HasTriple t codeSize a e) where
   pub room : e + valueSize + tailSize ≤ length t
   room = omega (arith, triple-far first)
 
-  module _ (q′ : Triple) (w′ : ℕ) (m′ : Bool) (e′ : ℕ) (says′ : tripleSays q′ e t) (eq′ : q′ ≡ Read w′ m′ e′) where
-    second : HasTriple t e (record { wh = w′; estimated = m′ }) e′
-    second = rw eq′ at says′
-
+  module _ (b : Interval) (e′ : ℕ) (second : HasTriple t e b e′) where
     pub room′ : e′ + valueSize + tailSize ≤ length t
     room′ = omega (arith, triple-far first, triple-far second)
 
-    module _ (q″ : Triple) (w″ : ℕ) (m″ : Bool) (e″ : ℕ) (says″ : tripleSays q″ e′ t) (eq″ : q″ ≡ Read w″ m″ e″) where
-      third : HasTriple t e′ (record { wh = w″; estimated = m″ }) e″
-      third = rw eq″ at says″
-
+    module _ (c : Interval) (e″ : ℕ) (third : HasTriple t e′ c e″) where
       pub room″ : e″ + valueSize + tailSize ≤ length t
       room″ = omega (arith, triple-far first, triple-far second, triple-far third)
 
-      module _ (q‴ : Triple) (w‴ : ℕ) (m‴ : Bool) (e‴ : ℕ) (says‴ : tripleSays q‴ e″ t) (eq‴ : q‴ ≡ Read w‴ m‴ e‴) where
-        fourth : HasTriple t e″ (record { wh = w‴; estimated = m‴ }) e‴
-        fourth = rw eq‴ at says‴
-
+      module _ (d : Interval) (e‴ : ℕ) (fourth : HasTriple t e″ d e‴) where
         pub within : e‴ + 1 < length t
         within = omega (arith, triple-far first, triple-far second, triple-far third, triple-far fourth)
 
         pub line-done : (k : ℕ) (r : Bool) → (r ≡ true → take codeSize t ≡ detailCode k ++ comma ∷ []) → not r ≡ false
-            → (n : ℕ) → (0 < n → EndsAt t e‴ n) → (n ≡ 0 → ⊥)
-            → DetailLine k t (record { wh = w; estimated = m } ∷ record { wh = w′; estimated = m′ } ∷ record { wh = w″; estimated = m″ } ∷ record { wh = w‴; estimated = m‴ } ∷ []) n
+            → (n : ℕ) → (0 < n → EndsAt t e‴ n) → (n ≡ 0 → ⊥) → DetailLine k t (a ∷ b ∷ c ∷ d ∷ []) n
         line-done k r h hr n ends some =
-            let line =
-            line-on k t e″ e‴ _ _
-            (line-on k t e′ e″ _ _ (line-on k t e e′ _ _ (line-on k t codeSize e [] _ (line-first k t r h hr) first) second) third)
+            let line : LineSoFar k t e‴ (a ∷ b ∷ c ∷ d ∷ []) =
+            line-on k t e″ e‴ (a ∷ b ∷ c ∷ []) d
+            (line-on k t e′ e″ (a ∷ b ∷ []) c (line-on k t e e′ (a ∷ []) b (line-on k t codeSize e [] a (line-first k t r h hr) first) second) third)
             fourth
             in
-            line-read k t e‴ _ _ _ _ line n (ends (omega arith)) within (omega arith)
+            line-read k t e‴ a b c d line n (ends (omega arith)) within (omega arith)
 
 -- A LINE OF THE WINDOW is a line of the piece
 wider : (k m n : ℕ) (s : Bytes) (is : List Interval) → DetailLine k (take m s) is n → DetailLine k s is n

@@ -33,8 +33,13 @@ use Rattle.direct.specs.Guess.{
   Aligned,
   Writes,
   BeginsValue,
+  BeginsDigits,
   HasTriple,
-  valueSays,
+  HasDigits,
+  digitsSays,
+  tailSays,
+  tripleSays,
+  anySays,
   inValue,
   tail,
   statusByte,
@@ -43,8 +48,14 @@ use Rattle.direct.specs.Guess.{
   wordSize,
   wholeTaken,
 }
-use Rattle.direct.specs.declared.guess.Value.{Value}
-use Rattle.direct.specs.declared.guess.Value.the-variants.{WattHours}
+use Rattle.direct.specs.declared.guess.Digits.{Digits}
+use Rattle.direct.specs.declared.guess.Digits.the-variants.{Word}
+use Rattle.direct.specs.declared.triple.Tail.{Tail}
+use Rattle.direct.specs.declared.triple.Tail.the-variants.{Status}
+use Rattle.direct.specs.declared.triple.Triple.{Triple}
+use Rattle.direct.specs.declared.triple.Triple.the-variants.{Read}
+use Rattle.direct.specs.declared.any.AnyTriple.{AnyTriple}
+use Rattle.direct.specs.declared.any.AnyTriple.the-variants.{Read as AnyRead}
 use Rattle.text.proofs.Class.{every-append}
 use Rattle.direct.proofs.Every.{digits-plain}
 use Rattle.direct.proofs.Numeral.{spread}
@@ -187,15 +198,19 @@ module _ (t : Bytes) (at n d : ℕ) (room : at + valueSize + tailSize ≤ length
         part-long,
       )
 
-  pub value-read : (v x : ℕ) (b : Bool) → (0 < n - d → x ≡ point) → getD t (at + d) 0 ≡ x → (b ≡ true → every isNumeral (bytesOf 8 a) ≡ true) → not b ≡ false
-      → v ≡ tensFrom 0 (bytesOf 8 a) → BeginsValue (drop at t) v n
-  value-read v x b g ex small hb e =
+  pub value-read : (x : ℕ) (b : Bool) → (0 < n - d → x ≡ point) → getD t (at + d) 0 ≡ x → (b ≡ true → every isNumeral (bytesOf 8 a) ≡ true) → not b ≡ false
+      → BeginsDigits (drop at t) a n
+  value-read x b g ex small hb =
       let short : length part ≤ 3 = omega (arith, part-long, y .part) in
       let all : every isNumeral (bytesOf 8 a) ≡ true = small (not-false b hb) in
-      rw (e, both-write (5 - d) whole part short (bytesOf 8 a) lined)
-      (read-by s n d (n - d) _ _ (omega (arith, y .inside)) (simp length-drop (omega (arith, y .whole, y .part))) y (λ l. getD-drop at t d 0 ∙ ex ∙ g l)
-      (whole-writes (5 - d) whole part short (bytesOf 8 a) lined all)
-      (part-writes (5 - d) whole part short (bytesOf 8 a) lined all))
+      record {
+        numerals = all;
+        value =
+            rw (both-write (5 - d) whole part short (bytesOf 8 a) lined)
+            (read-by s n d (n - d) _ _ (omega (arith, y .inside)) (simp length-drop (omega (arith, y .whole, y .part))) y (λ l. getD-drop at t d 0 ∙ ex ∙ g l)
+            (whole-writes (5 - d) whole part short (bytesOf 8 a) lined all)
+            (part-writes (5 - d) whole part short (bytesOf 8 a) lined all));
+      }
 
 -- A VALUE OF ANY LENGTH, by the plain reader: what the rule passes has digits and a point only
 parts-plain : (whole rest : Bytes) (n : ℕ) → valueParts whole rest ≡ passed n → every inValue rest ≡ true
@@ -238,20 +253,55 @@ unfolding bytesOf
 tail-bytes true = refl
 tail-bytes false = refl
 
--- the answer of either reader of values
-pub value-said : (v : Value) (s : Bytes) (wh n : ℕ) → valueSays v s → v ≡ WattHours wh n → BeginsValue s wh n
-value-said v s wh n says e = rw e at says
+pub tail-read : (x : ℕ) (s : Bytes) → bytesOf 4 x ≡ take 4 s → (not (eqb x (tailWord true)) && not (eqb x (tailWord false))) ≡ false
+    → take tailSize s ≡ tail (statusByte (eqb x (tailWord true)))
+tail-read x s word h = go (eqb x (tailWord true)) refl h
+  where
+    is : (e : Bool) → x ≡ tailWord e → take tailSize s ≡ tail (statusByte e)
+    is e q = sym word ∙ rw q (tail-bytes e)
 
--- a value of n bytes; x is the word behind it
-module _ (t : Bytes) (at wh n : ℕ) (begun : BeginsValue (drop at t) wh n) (x : ℕ) (word : bytesOf 4 x ≡ take 4 (drop (at + n) t)) where
-  triple-read : (estimated : Bool) → x ≡ tailWord estimated → HasTriple t at (record { wh = wh; estimated = estimated }) (at + n + tailSize)
-  triple-read estimated e = record { n = n; value = begun; behind = sym word ∙ rw e (tail-bytes estimated); ends = refl }
+    go : (e : Bool) → eqb x (tailWord true) ≡ e → (not e && not (eqb x (tailWord false))) ≡ false → take tailSize s ≡ tail (statusByte e)
+    go true q g = is true (eqb-true x (tailWord true) q)
+    go false q g = is false (eqb-true x (tailWord false) (not-false _ g))
 
-  pub triple-either : (not (eqb x (tailWord true)) && not (eqb x (tailWord false))) ≡ false
-      → HasTriple t at (record { wh = wh; estimated = eqb x (tailWord true) }) (at + n + tailSize)
-  triple-either h = go (eqb x (tailWord true)) refl h
-    where
-      go : (e : Bool) → eqb x (tailWord true) ≡ e → (not e && not (eqb x (tailWord false))) ≡ false
-          → HasTriple t at (record { wh = wh; estimated = e }) (at + n + tailSize)
-      go true e g = triple-read true (eqb-true x (tailWord true) e)
-      go false e g = triple-read false (eqb-true x (tailWord false) (not-false _ g))
+-- AN INTERVAL: what the readers of its parts answered
+tail-said : (r : Tail) (s : Bytes) (e : Bool) → tailSays r s → r ≡ Status e → take tailSize s ≡ tail (statusByte e)
+tail-said r s e says q = rw q at says
+
+module _ (t : Bytes) (at w n : ℕ) (v : Digits) (says : digitsSays v (drop at t)) (ev : v ≡ Word w n) where
+  begun : BeginsDigits (drop at t) w n
+  begun = rw ev at says
+
+  pub digits-short : n ≤ valueSize
+  digits-short = begun .value .short
+
+  pub triple-done : (r : Tail) (e : Bool) → tailSays r (drop (at + n) t) → r ≡ Status e → HasDigits t at w e (at + n + tailSize)
+  triple-done r e told q =
+      record {
+        numerals = begun .numerals;
+        triple = record { n = n; value = begun .value; behind = tail-said r (drop (at + n) t) e told q; ends = refl };
+      }
+
+module _ (t : Bytes) (at wh : ℕ) (f : Bytes) (v : Plain) (e : f ≡ firstField (take (at + valueSize - at) (drop at t))) (says : plainSays v ≡ valueOf f)
+    (ev : v ≡ PlainHours wh) where
+  pub long-short : length f ≤ valueSize
+  long-short = long-read t at wh f v e says ev .short
+
+  pub long-done : (r : Tail) (m : Bool) → tailSays r (drop (at + length f) t) → r ≡ Status m
+      → HasTriple t at (record { wh = wh; estimated = m }) (at + length f + tailSize)
+  long-done r m told q =
+      record { n = length f; value = long-read t at wh f v e says ev; behind = tail-said r (drop (at + length f) t) m told q; ends = refl }
+
+-- its digits, and the number that they write
+module _ (q : Triple) (t : Bytes) (at w : ℕ) (m : Bool) (end : ℕ) (says : tripleSays q at t) (eq : q ≡ Read w m end) where
+  found : HasDigits t at w m end
+  found = rw eq at says
+
+  pub numerals-said : every isNumeral (bytesOf 8 w) ≡ true
+  numerals-said = found .numerals
+
+  pub triple-said : (v : ℕ) → v ≡ tensFrom 0 (bytesOf 8 w) → HasTriple t at (record { wh = v; estimated = m }) end
+  triple-said v e = rw e (found .triple)
+
+pub any-said : (q : AnyTriple) (t : Bytes) (at wh : ℕ) (m : Bool) (end : ℕ) → anySays q at t → q ≡ AnyRead wh m end → HasTriple t at (record { wh = wh; estimated = m }) end
+any-said q t at wh m end says eq = rw eq at says

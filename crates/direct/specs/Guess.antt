@@ -15,10 +15,14 @@ use Rattle.lines.specs.Line.{LF, CR, crSize}
 use Rattle.lines.specs.Outcome.{passed}
 use Rattle.details.specs.Value.{point, wholeDigits, partDigits, valueOf}
 use Rattle.details.specs.declared.detail.Interval.{Interval}
-use Rattle.direct.specs.declared.guess.Value.{Value}
-use Rattle.direct.specs.declared.guess.Value.the-variants.{WattHours, Other as ValueOther}
+use Rattle.direct.specs.declared.guess.Digits.{Digits}
+use Rattle.direct.specs.declared.guess.Digits.the-variants.{Word, Other as DigitsOther}
+use Rattle.direct.specs.declared.triple.Tail.{Tail}
+use Rattle.direct.specs.declared.triple.Tail.the-variants.{Status, Other as TailOther}
 use Rattle.direct.specs.declared.triple.Triple.{Triple}
 use Rattle.direct.specs.declared.triple.Triple.the-variants.{Read, Other as TripleOther}
+use Rattle.direct.specs.declared.any.AnyTriple.{AnyTriple}
+use Rattle.direct.specs.declared.any.AnyTriple.the-variants.{Read as AnyRead, Other as AnyOther}
 
 -- the bytes that are looked at; every line that is taken ends within them
 abbrev pub windowSize : ℕ
@@ -91,9 +95,18 @@ pub record BeginsValue (s : Bytes) (wh n : ℕ) : Type 0 where
   pub plain : every inValue (take n s) ≡ true
   pub value : valueOf (take n s) ≡ passed wh
 
-abbrev pub valueSays : Value → Bytes → Type 0
-valueSays (WattHours wh n) s = BeginsValue s wh n
-valueSays ValueOther s = Unit {0}
+-- and a word has its digits in line
+pub record BeginsDigits (s : Bytes) (w n : ℕ) : Type 0 where
+  pub numerals : every isNumeral (bytesOf 8 w) ≡ true
+  pub value : BeginsValue s (tensFrom 0 (bytesOf 8 w)) n
+
+abbrev pub digitsSays : Digits → Bytes → Type 0
+digitsSays (Word w n) s = BeginsDigits s w n
+digitsSays DigitsOther s = Unit {0}
+
+abbrev pub tailSays : Tail → Bytes → Type 0
+tailSays (Status estimated) s = take tailSize s ≡ tail (statusByte estimated)
+tailSays TailOther s = Unit {0}
 
 -- an interval stands at a place and ends before `end`: a value of n bytes, status and empty field, with their commas
 pub record HasTriple (s : Bytes) (at : ℕ) (i : Interval) (end : ℕ) : Type 0 where
@@ -102,9 +115,18 @@ pub record HasTriple (s : Bytes) (at : ℕ) (i : Interval) (end : ℕ) : Type 0 
   pub behind : take tailSize (drop (at + n) s) ≡ tail (statusByte (i .estimated))
   pub ends : end ≡ at + n + tailSize
 
+-- and a word has its value's digits in line
+pub record HasDigits (s : Bytes) (at w : ℕ) (estimated : Bool) (end : ℕ) : Type 0 where
+  pub numerals : every isNumeral (bytesOf 8 w) ≡ true
+  pub triple : HasTriple s at (record { wh = tensFrom 0 (bytesOf 8 w); estimated = estimated }) end
+
 abbrev pub tripleSays : Triple → ℕ → Bytes → Type 0
-tripleSays (Read wh estimated end) at s = HasTriple s at (record { wh = wh; estimated = estimated }) end
+tripleSays (Read w estimated end) at s = HasDigits s at w estimated end
 tripleSays TripleOther at s = Unit {0}
+
+abbrev pub anySays : AnyTriple → ℕ → Bytes → Type 0
+anySays (AnyRead wh estimated end) at s = HasTriple s at (record { wh = wh; estimated = estimated }) end
+anySays AnyOther at s = Unit {0}
 
 -- a line whose intervals end at a place has its LF at n: there, or behind a CR
 pub record EndsAt (s : Bytes) (at n : ℕ) : Type 0 where

@@ -3,64 +3,65 @@
 // The common lines' reader calls none of these, because of the machine code: with such a call in it, however rare, the compiler does not make it
 // a part of its caller's loop any more, and common lines load 5 to 10 percent slower. So a caller has `read_direct` in its loop, and tries
 // `read_any` on a line that it leaves.
+ghost use mathlib.Core.Path.{_≡_};
 ghost use Prim.Native.Nat.{_+_, _≤_};
 ghost use lib.ListN.{length, drop};
-ghost use mathlib.Core.Path.{_≡_};
 ghost use Rattle.direct.specs.Direct.{directSays};
-ghost use Rattle.direct.specs.Guess.{windowSize, valueSize, tailSize, valueSays, tripleSays};
+ghost use Rattle.direct.specs.Guess.{windowSize, valueSize, tailSize, anySays};
 use crate::CODE;
 use crate::Direct;
 use crate::WINDOW;
 use crate::begins_code;
-use crate::guess::Value;
 use crate::line_end;
+use crate::triple::TAIL;
+use crate::triple::Tail;
 use crate::triple::Triple;
+use crate::triple::read_tail;
 use crate::triple::read_triple;
-use crate::triple::with_status;
+use crate::word::number;
 use details::detail::Interval;
-use details::value::Value as Plain;
-use details::value::read_value as read_plain;
+use details::value::Value;
+use details::value::read_value;
 use text::fields::field;
+
+// Watt hours, whether they are estimated, and the place behind; or it is for the plain reader.
+enum AnyTriple {
+    Read(u32, bool, usize),
+    Other,
+}
 
 // The longest value.
 const VALUE: usize = 10;
 
-// The value at a place, up to its comma.
-fn long_value(t: &[u8], at: usize) -> Value
+// An interval whose value is cut at its comma.
+fn long_triple(t: &[u8], at: usize) -> AnyTriple
     requires { ⌜ at + valueSize + tailSize ≤ length (now t) ⌝ }
-    ensures { λ r. ⌜ valueSays r (drop at (now (t .entry))) ⌝ }
+    ensures { λ r. ⌜ anySays r at (now (t .entry)) ⌝ }
 {
     let end = at + VALUE;
     let f = field(&t[at..end]);
-    let v = read_plain(f);
-    let Plain::WattHours(wh) = v else {
-        return Value::Other;
+    let v = read_value(f);
+    let Value::WattHours(wh) = v else {
+        return AnyTriple::Other;
     };
-    Value::WattHours(wh, f.len())
+    let behind = at + f.len();
+    let s = read_tail(t, behind);
+    let Tail::Status(estimated) = s else {
+        return AnyTriple::Other;
+    };
+    AnyTriple::Read(wh, estimated, behind + TAIL)
 }
 
-// An interval at a place of the window, with such a value.
-fn long_triple(t: &[u8], at: usize) -> Triple
+// An interval: one with a short value is read as in a common line.
+fn any_triple(t: &[u8], at: usize) -> AnyTriple
     requires { ⌜ at + valueSize + tailSize ≤ length (now t) ⌝ }
-    ensures { λ r. ⌜ tripleSays r at (now (t .entry)) ⌝ }
-{
-    let v = long_value(t, at);
-    let Value::WattHours(wh, n) = v else {
-        return Triple::Other;
-    };
-    with_status(t, at, wh, n)
-}
-
-// An interval at a place of the window: a short value is read as in a common line.
-fn any_triple(t: &[u8], at: usize) -> Triple
-    requires { ⌜ at + valueSize + tailSize ≤ length (now t) ⌝ }
-    ensures { λ r. ⌜ tripleSays r at (now (t .entry)) ⌝ }
+    ensures { λ r. ⌜ anySays r at (now (t .entry)) ⌝ }
 {
     let q = read_triple(t, at);
-    if let Triple::Other = q {
+    let Triple::Read(w, estimated, end) = q else {
         return long_triple(t, at);
-    }
-    q
+    };
+    AnyTriple::Read(number(w), estimated, end)
 }
 
 // A detail line k, with its LF, at the front of the window.
@@ -72,22 +73,22 @@ fn any_line(t: &[u8], k: u32) -> Direct
         return Direct::Other;
     }
     let q = any_triple(t, CODE);
-    let Triple::Read(wh, estimated, at) = q else {
+    let AnyTriple::Read(wh, estimated, at) = q else {
         return Direct::Other;
     };
     let a = Interval { wh, estimated };
     let q = any_triple(t, at);
-    let Triple::Read(wh, estimated, at) = q else {
+    let AnyTriple::Read(wh, estimated, at) = q else {
         return Direct::Other;
     };
     let b = Interval { wh, estimated };
     let q = any_triple(t, at);
-    let Triple::Read(wh, estimated, at) = q else {
+    let AnyTriple::Read(wh, estimated, at) = q else {
         return Direct::Other;
     };
     let c = Interval { wh, estimated };
     let q = any_triple(t, at);
-    let Triple::Read(wh, estimated, at) = q else {
+    let AnyTriple::Read(wh, estimated, at) = q else {
         return Direct::Other;
     };
     let d = Interval { wh, estimated };

@@ -1,19 +1,18 @@
-// A value at a place of the window, read without a loop: where its comma and its point stand is guessed from eight bytes at once, and
-// then the point and the digits are tested. A wrong guess fails a test, so a guess owes nothing but its range.
+// The digits of a value at a place of the window, found without a loop: where its comma and its point stand is guessed from eight bytes at once,
+// and then the point and the digits are tested. A wrong guess fails a test, so a guess owes nothing but its range.
 ghost use mathlib.Core.Path.{_≡_};
 ghost use mathlib.Core.Bool.{true};
 ghost use Prim.Native.Nat.{_+_, _-_, _≤_, _<_};
 ghost use lib.ListN.{length, drop};
 ghost use Rattle.details.specs.Value.{point};
-ghost use Rattle.direct.specs.Guess.{valueSize, tailSize, wordSize, Layout, valueSays};
+ghost use Rattle.direct.specs.Guess.{valueSize, tailSize, wordSize, Layout, digitsSays};
 use crate::word::aligned;
 use crate::word::all_numerals;
 use crate::word::eight;
-use crate::word::number;
 
-// Watt hours, and how many bytes the value has; or it is for another reader.
-pub enum Value {
-    WattHours(u32, usize),
+// A value's digits in line, in one word, and how many bytes the value has; or it is for another reader. `word::number` makes watt hours of them.
+pub enum Digits {
+    Word(u64, usize),
     Other,
 }
 
@@ -68,23 +67,23 @@ fn stop_byte(f: usize) -> u8
     if f == 0 { b',' } else { b'.' }
 }
 
-// The value at a place. One that goes on behind the word is cut there: its comma will be missed.
-pub fn read_value(t: &[u8], at: usize) -> Value
+// The digits of the value at a place. One that goes on behind the word is cut there: its comma will be missed.
+pub fn read_digits(t: &[u8], at: usize) -> Digits
     requires { ⌜ at + valueSize + tailSize ≤ length (now t) ⌝ }
-    ensures { λ r. ⌜ valueSays r (drop at (now (t .entry))) ⌝ }
+    ensures { λ r. ⌜ digitsSays r (drop at (now (t .entry))) ⌝ }
 {
     let w = eight(t, at);
     let n = guess(w, COMMAS);
     let d = least(guess(w, POINTS), n);
     if !has_layout(n, d) {
-        return Value::Other;
+        return Digits::Other;
     }
     if t[at + d] != stop_byte(n - d) {
-        return Value::Other;
+        return Digits::Other;
     }
     let a = aligned(w ^ ZEROS, n, d);
     if !all_numerals(a) {
-        return Value::Other;
+        return Digits::Other;
     }
-    Value::WattHours(number(a), n)
+    Digits::Word(a, n)
 }

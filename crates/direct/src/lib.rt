@@ -24,6 +24,7 @@ ghost use Rattle.direct.specs.Direct.{directSays};
 ghost use Rattle.direct.specs.Guess.{windowSize, codeSize, EndsAt};
 use crate::triple::Triple;
 use crate::triple::read_triple;
+use crate::word::number;
 use details::detail::Interval;
 use lines::line::CR;
 use lines::line::LF;
@@ -85,25 +86,37 @@ fn read_line(t: &[u8], k: u32) -> Direct
         return Direct::Other;
     }
     let q = read_triple(t, CODE);
-    let Triple::Read(wh, estimated, at) = q else {
+    let Triple::Read(w, estimated, at) = q else {
         return Direct::Other;
     };
-    let a = Interval { wh, estimated };
+    let a = Interval {
+        wh: number(w),
+        estimated,
+    };
     let q = read_triple(t, at);
-    let Triple::Read(wh, estimated, at) = q else {
+    let Triple::Read(w, estimated, at) = q else {
         return Direct::Other;
     };
-    let b = Interval { wh, estimated };
+    let b = Interval {
+        wh: number(w),
+        estimated,
+    };
     let q = read_triple(t, at);
-    let Triple::Read(wh, estimated, at) = q else {
+    let Triple::Read(w, estimated, at) = q else {
         return Direct::Other;
     };
-    let c = Interval { wh, estimated };
+    let c = Interval {
+        wh: number(w),
+        estimated,
+    };
     let q = read_triple(t, at);
-    let Triple::Read(wh, estimated, at) = q else {
+    let Triple::Read(w, estimated, at) = q else {
         return Direct::Other;
     };
-    let d = Interval { wh, estimated };
+    let d = Interval {
+        wh: number(w),
+        estimated,
+    };
     let n = line_end(t, at);
     if n == 0 {
         return Direct::Other;

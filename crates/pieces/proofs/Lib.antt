@@ -7,3 +7,4 @@ pub mod Puts
 pub mod Running
 pub mod Moving
 pub mod PlainLine
+pub mod Skipping

@@ -16,17 +16,18 @@ use Rattle.cell.specs.Layout.{Words, width}
 use Rattle.cell.specs.Read.{withIntervals}
 use Rattle.plain.specs.declared.Entry.{Entry}
 use Rattle.plain.specs.Rows.{Rules, rulesOf, headerRows, maxDetails}
-use Rattle.plain.specs.Loader.{Scan, scan, takesRows, stepLine, scanTo, scanEvents, entryOf}
+use Rattle.plain.specs.Loader.{Scan, scan, takesRows, skips, stepLine, scanTo, scanEvents, entryOf}
 use Rattle.plain.specs.Call.{byteLimit}
 use Rattle.plain.specs.Promise.{keptLimit, cutScan, detailsIn}
 use Rattle.records.specs.declared.Progress.{Progress}
 use Rattle.records.specs.Answer.{rowsOf, oneMore, Sized}
 use Rattle.units.specs.declared.Unit.{Unit as KeptUnit}
-use Rattle.units.specs.declared.Unit.the-variants.{Takes}
+use Rattle.units.specs.declared.Unit.the-variants.{Takes, Skips}
 use Rattle.units.specs.declared.Said.the-variants.{Nothing}
 use Rattle.units.specs.declared.Stepped.{Stepped}
 use Rattle.units.specs.Answer.{unitOf, told, Tells}
 use Rattle.pieces.specs.declared.rows.RowsRead.{RowsRead}
+use Rattle.pieces.specs.declared.skip.Skipped.{Skipped}
 use Rattle.pieces.specs.declared.line.Moved.{Moved}
 use Rattle.pieces.specs.declared.run.Run.{Run}
 
@@ -114,6 +115,14 @@ pub record RowsRan (p : Progress) (lines : ℕ) (piece : Bytes) (at : ℕ) (befo
   pub quiet : (reg id sender : Bytes) (first : ℕ)
       → scanEvents (rulesOf reg) (scan [] lines (takesRows first (rowsOf p id sender before))) (between at (r .at) piece) ≡ []
 
+-- lines skipped from a place on: nothing is said
+pub record SkipsTo (lines : ℕ) (piece : Bytes) (at : ℕ) (r : Skipped) : Type 0 where
+  pub behind : at ≤ r .at
+  pub within : r .at ≤ length piece
+  pub fits : r .lines + (length piece - r .at) ≤ byteLimit
+  pub reaches : (reg : Bytes) → scanTo (rulesOf reg) (scan [] lines skips) (between at (r .at) piece) ≡ scan [] (r .lines) skips
+  pub quiet : (reg : Bytes) → scanEvents (rulesOf reg) (scan [] lines skips) (between at (r .at) piece) ≡ []
+
 -- behind a line that was read up to the LF at `end`
 abbrev pub movedTo : Stepped → ℕ → ℕ → Moved
 movedTo s lines end = record { unit = s .unit; lines = suc lines; held = 0; at = suc end; first = s .first; second = s .second }
@@ -121,6 +130,10 @@ movedTo s lines end = record { unit = s .unit; lines = suc lines; held = 0; at =
 -- behind rows that were read, after which a further one is due
 abbrev pub movedBehind : ℕ → RowsRead → Moved
 movedBehind first r = record { unit = Takes first (r .progress); lines = r .lines; held = 0; at = r .at; first = Nothing; second = Nothing }
+
+-- behind skipped lines, with which the piece ends
+abbrev pub movedOver : Skipped → Moved
+movedOver s = record { unit = Skips; lines = s .lines; held = 0; at = s .at; first = Nothing; second = Nothing }
 
 abbrev pub toldIn : Moved → List Entry
 toldIn m = told (m .first) ++ told (m .second)

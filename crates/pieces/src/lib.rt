@@ -7,3 +7,4 @@ pub mod keep;
 pub mod line;
 pub mod rows;
 pub mod run;
+mod skip;

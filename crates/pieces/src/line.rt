@@ -17,6 +17,7 @@ use crate::keep::keep;
 use crate::rows::RowsRead;
 use crate::rows::read_headers;
 use crate::rows::read_rows;
+use crate::skip::skipped_lines;
 use direct::Direct;
 use direct::any::read_any;
 use lines::line::ends_with_cr;
@@ -110,7 +111,7 @@ fn behind_rows(first: u32, r: RowsRead) -> Moved
 }
 
 // A line by a look for its end: it is read, or what there is of it is kept.
-fn plain_line(
+pub fn plain_line(
     unit: Unit,
     lines: u32,
     held: usize,
@@ -364,6 +365,22 @@ pub fn next_line(
             return record_lines(
                 first,
                 p,
+                lines,
+                piece,
+                at,
+                registry,
+                meters,
+                owners,
+                known,
+                kept,
+                id,
+                sender,
+                words,
+                table,
+            );
+        }
+        if let Unit::Skips = unit {
+            return skipped_lines(
                 lines,
                 piece,
                 at,

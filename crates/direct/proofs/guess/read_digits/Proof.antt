@@ -1,10 +1,10 @@
--- `direct::guess::read_value` meets its contract.
+-- `direct::guess::read_digits` meets its contract.
 -- Assumes nothing.
 use borrow.Author.Needs.{needs}
 use borrow.Author.Tests.{not-false}
 use Rattle.direct.proofs.Value.{value-read}
-use Rattle.direct.proofs.guess.read_value.Statement.{statement}
-use Rattle.direct.proofs.guess.read_value.Tie as tie
+use Rattle.direct.proofs.guess.read_digits.Statement.{statement}
+use Rattle.direct.proofs.guess.read_digits.Tie as tie
 
 eight-requires : tie.Need-eight-requires
 eight-requires c κs = search needs
@@ -48,16 +48,11 @@ all-numerals-requires c κs = search needs
 returns-3 : tie.Need-returns-3
 returns-3 c = search needs
 
-number-requires : tie.Need-number-requires
-number-requires c κs = (c .before .all-numerals .ensures) (not-false _ (c .if3 .left))
-
 returns-4 : tie.Need-returns-4
-returns-4 c =
-    value-read _ _ _ _ (c .before .before .before .before .before .before .before .before .before .before .before .before .before .before .pre) _ (c .before .before .before .before .before .before .before .before .has-layout .ensures) (c .before .before .before .before .before .before .before .if1 .left) _ _ (c .before .before .before .before .before .before .before .before .before .before .before .before .eight .ensures) (c .before .before .before .aligned .ensures) _ _ _ (c .before .before .before .before .before .stop-byte .ensures) (c .before .before .before .before .if2 .left)
-    (c .before .before .all-numerals .ensures) (c .before .if3 .left) (c .number .ensures)
+returns-4 c = value-read _ _ _ _ (c .before .before .before .before .before .before .before .before .before .before .before .before .before .pre) _ (c .before .before .before .before .before .before .before .has-layout .ensures) (c .before .before .before .before .before .before .if1 .left) _ _ (c .before .before .before .before .before .before .before .before .before .before .before .eight .ensures) (c .before .before .aligned .ensures) _ _ (c .before .before .before .before .stop-byte .ensures) (c .before .before .before .if2 .left) (c .before .all-numerals .ensures) (c .if3 .left)
 
-pub read-value-spec : {M : Type 1} → statement M
-read-value-spec =
+pub read-digits-spec : {M : Type 1} → statement M
+read-digits-spec =
     tie.close
     (tie.spec
     eight-requires
@@ -74,5 +69,4 @@ read-value-spec =
     aligned-requires
     all-numerals-requires
     returns-3
-    number-requires
     returns-4)
