@@ -11,8 +11,8 @@
 //
 // For whoever changes it: what `Line` owes is specs/Direct.antt, which cites the row's rule in details; `Other` owes nothing, so a reader that
 // takes fewer lines is slower and still right. The shape was chosen by measuring: bytes tested and digits read several at once, in a word,
-// the four intervals one after another with no loop, and a window of fixed size, of which every index is proved to be inside. `read_direct` has to
-// stay small: the compiler makes it a part of its caller's loop (any.rt has what it costs otherwise).
+// the four intervals one after another with no loop, and a window of fixed size, of which every index is proved to be inside. `read_triple` and
+// `read_direct` have to stay small: the compiler makes them a part of their caller's code (triple.rt and any.rt have what it costs otherwise).
 ghost use mathlib.Core.Path.{_≡_};
 ghost use mathlib.Core.Bool.{true};
 ghost use mathlib.Core.List.{[], _∷_, _++_};

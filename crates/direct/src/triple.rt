@@ -12,8 +12,7 @@ pub enum Tail {
     Other,
 }
 
-// A value's digits in line, whether it is estimated, and the place behind; or it is for another reader. The parts stand by themselves, not as an
-// `Interval`: a struct is copied whole, and the processor waits if its parts were written one by one just before.
+// A value's digits in line, whether it is estimated, and the place behind; or it is for another reader.
 pub enum Triple {
     Read(u64, bool, usize),
     Other,
@@ -39,7 +38,8 @@ pub fn read_tail(t: &[u8], at: usize) -> Tail
     Tail::Status(estimated)
 }
 
-// An interval with a value that a word holds.
+// An interval with a value that a word holds. The number is left to the caller: with `number` in it, this is too large for the compiler to make it a
+// part of the line's reader, and common lines load a twelfth slower.
 pub fn read_triple(t: &[u8], at: usize) -> Triple
     requires { ⌜ at + valueSize + tailSize ≤ length (now t) ⌝ }
     ensures { λ r. ⌜ tripleSays r at (now (t .entry)) ⌝ }
