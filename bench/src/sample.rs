@@ -99,10 +99,15 @@ pub enum Values {
     Usual,
     /// 0 to 6 digits and 0 to 3 decimals, each as often: nothing to foresee for the processor.
     EveryLength,
+    /// Five digits and three decimals: longer than a word of eight bytes.
+    Long,
 }
 
 /// A right value.
 pub fn value(rng: &mut Rng, values: Values) -> String {
+    if values == Values::Long {
+        return text(rng, 5) + "." + &text(rng, 3);
+    }
     if values == Values::EveryLength {
         return match (rng.below(7), rng.below(4)) {
             (0, 0) => "0".to_string(),
@@ -183,12 +188,12 @@ pub fn file(rng: &mut Rng, world: &World, values: Values, damaged: usize) -> Vec
     file
 }
 
-/// The same file with a CR before each LF.
-pub fn with_crs(file: &[u8]) -> Vec<u8> {
+/// The same file with other bytes in the place of each LF.
+pub fn with_ends(file: &[u8], end: &[u8]) -> Vec<u8> {
     let mut with = Vec::with_capacity(file.len() * 21 / 20);
     for line in file.split_inclusive(|&b| b == b'\n') {
         with.extend(&line[..line.len() - 1]);
-        with.extend(b"\r\n");
+        with.extend(end);
     }
     with
 }

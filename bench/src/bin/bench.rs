@@ -1,9 +1,10 @@
 //! The speed of the library beside that of the two loaders in Rust, as a table for docs/SPEED.md.
 //!
-//!     cargo run --release --manifest-path bench/Cargo.toml --bin bench [-- [--quick] [RUNS]]
+//!     cargo run --release --manifest-path bench/Cargo.toml --bin bench [-- [--quick] [--odd] [RUNS]]
 //!
 //! Files stand in memory; the table is cleared before each load, outside the time. The loaders take
 //! turns, so that all see the same machine, and medians are shown. What they load is compared too.
+//! `--odd` has files that are not as they should be instead.
 
 use kilnsorrel_bench::kilnsorrel::{self, State};
 use kilnsorrel_bench::reference::{self, MAX_RECORD, WIDTH};
@@ -160,7 +161,7 @@ const SIZES: [(usize, &str); 3] = [(4096, "4 KiB"), (65536, "64 KiB"), (1 << 20,
 fn loads(rng: &mut Rng, world: &World, realistic: Vec<u8>, runs: usize) -> Vec<u32> {
     let every_length = sample::file(rng, world, Values::EveryLength, 0);
     let damaged = sample::file(rng, world, Values::Usual, 50);
-    let with_crs = sample::with_crs(&realistic);
+    let with_crs = sample::with_ends(&realistic, b"\r\n");
     let mut job = Job::new(world, realistic);
     let files = [
         ("realistic", None),
@@ -177,6 +178,22 @@ fn loads(rng: &mut Rng, world: &World, realistic: Vec<u8>, runs: usize) -> Vec<u
         }
     }
     job.table
+}
+
+/// Loads of files that are not as they should be, in pieces of 1 MiB.
+fn odd_loads(rng: &mut Rng, world: &World, realistic: Vec<u8>, runs: usize) {
+    let files = [
+        ("all records damaged", sample::file(rng, world, Values::Usual, 1000)),
+        ("values of nine bytes", sample::file(rng, world, Values::Long, 0)),
+        ("an empty line behind every line", sample::with_ends(&realistic, b"\n\n")),
+        ("lines of one byte", b"x\n".repeat(20_000_000)),
+        ("no LF at all", vec![b'x'; 80_000_000]),
+    ];
+    let mut job = Job::new(world, realistic);
+    for (name, file) in files {
+        job.file = file;
+        show_load(&format!("load, {name}, 1 MiB, MB/s"), &mut job, 1 << 20, runs);
+    }
 }
 
 /// Write and Estimates, whole calls on cells spread over the table, and the registry's test by
@@ -219,12 +236,13 @@ fn processor() -> String {
 }
 
 fn main() {
-    let (mut days, mut some_calls, mut runs) = (62, 4000, 7);
+    let (mut days, mut some_calls, mut runs, mut odd) = (62, 4000, 7, false);
     for word in std::env::args().skip(1) {
         match word.parse() {
             Ok(n) if n > 0 => runs = n,
             _ if word == "--quick" => (days, some_calls) = (6, 500),
-            _ => panic!("bench [--quick] [RUNS]"),
+            _ if word == "--odd" => odd = true,
+            _ => panic!("bench [--quick] [--odd] [RUNS]"),
         }
     }
     let rng = &mut Rng::new(1);
@@ -235,6 +253,9 @@ fn main() {
     println!("Medians of {runs} runs. MB are 10^6 bytes.\n");
     println!("| | Kilnsorrel | fast Rust | ordinary Rust | to fast | to ordinary |");
     println!("|---|---:|---:|---:|---:|---:|");
+    if odd {
+        return odd_loads(rng, &world, file, runs);
+    }
     let table = loads(rng, &world, file, runs);
     calls(&world, &table, some_calls, runs);
 }

@@ -12,9 +12,9 @@ use text::fields::front;
 use text::numbers::digits;
 use text::numbers::number_of;
 
-const WHOLE_DIGITS: usize = 6;
+pub const WHOLE_DIGITS: usize = 6;
 
-const PART_DIGITS: usize = 3;
+pub const PART_DIGITS: usize = 3;
 
 // Watt hours, or the verdict.
 pub enum Value {

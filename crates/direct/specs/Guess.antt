@@ -14,6 +14,7 @@ use Rattle.text.specs.Number.{number}
 use Rattle.lines.specs.Line.{LF, CR, crSize}
 use Rattle.lines.specs.Outcome.{passed}
 use Rattle.details.specs.Value.{point, wholeDigits, partDigits, valueOf}
+use Rattle.details.specs.Detail.{perRow}
 use Rattle.details.specs.declared.detail.Interval.{Interval}
 use Rattle.direct.specs.declared.guess.Digits.{Digits}
 use Rattle.direct.specs.declared.guess.Digits.the-variants.{Word, Other as DigitsOther}
@@ -23,10 +24,6 @@ use Rattle.direct.specs.declared.triple.Triple.{Triple}
 use Rattle.direct.specs.declared.triple.Triple.the-variants.{Read, Other as TripleOther}
 use Rattle.direct.specs.declared.any.AnyTriple.{AnyTriple}
 use Rattle.direct.specs.declared.any.AnyTriple.the-variants.{Read as AnyRead, Other as AnyOther}
-
--- the bytes that are looked at; every line that is taken ends within them
-abbrev pub windowSize : ℕ
-windowSize = 67
 
 -- a detail line's code with its comma
 abbrev pub codeSize : ℕ
@@ -53,6 +50,10 @@ tail status = comma ∷ status ∷ comma ∷ comma ∷ []
 
 abbrev pub tailSize : ℕ
 tailSize = 4
+
+-- the bytes that are looked at: the longest line that is taken, with CR and LF
+abbrev pub windowSize : ℕ
+windowSize = codeSize + perRow * (valueSize + tailSize) + 2
 
 -- a value in a word may have n bytes, d of them before its point (all of them, if it has none): a point has a digit behind it
 pub record Layout (n d : ℕ) : Type 0 where
@@ -95,7 +96,7 @@ pub record BeginsValue (s : Bytes) (wh n : ℕ) : Type 0 where
   pub plain : every inValue (take n s) ≡ true
   pub value : valueOf (take n s) ≡ passed wh
 
--- and a word has its digits in line
+-- the same, with its digits in line in a word
 pub record BeginsDigits (s : Bytes) (w n : ℕ) : Type 0 where
   pub numerals : every isNumeral (bytesOf 8 w) ≡ true
   pub value : BeginsValue s (tensFrom 0 (bytesOf 8 w)) n
@@ -115,7 +116,7 @@ pub record HasTriple (s : Bytes) (at : ℕ) (i : Interval) (end : ℕ) : Type 0 
   pub behind : take tailSize (drop (at + n) s) ≡ tail (statusByte (i .estimated))
   pub ends : end ≡ at + n + tailSize
 
--- and a word has its value's digits in line
+-- the same, with its value's digits in line in a word
 pub record HasDigits (s : Bytes) (at w : ℕ) (estimated : Bool) (end : ℕ) : Type 0 where
   pub numerals : every isNumeral (bytesOf 8 w) ≡ true
   pub triple : HasTriple s at (record { wh = tensFrom 0 (bytesOf 8 w); estimated = estimated }) end

@@ -10,6 +10,7 @@ ghost use Rattle.direct.specs.Direct.{directSays};
 ghost use Rattle.direct.specs.Guess.{windowSize, valueSize, tailSize, anySays};
 use crate::CODE;
 use crate::Direct;
+use crate::VALUE;
 use crate::WINDOW;
 use crate::begins_code;
 use crate::line_end;
@@ -30,9 +31,6 @@ enum AnyTriple {
     Read(u32, bool, usize),
     Other,
 }
-
-// The longest value.
-const VALUE: usize = 10;
 
 // An interval whose value is cut at its comma.
 fn long_triple(t: &[u8], at: usize) -> AnyTriple

@@ -9,6 +9,7 @@ ghost use Rattle.direct.specs.Guess.{valueSize, tailSize, wordSize, Layo
 use crate::word::aligned;
 use crate::word::all_numerals;
 use crate::word::eight;
+use details::value::PART_DIGITS;
 
 // A value's digits in line, in one word, and how many bytes the value has; or it is for another reader. `word::number` makes watt hours of them.
 pub enum Digits {
@@ -16,10 +17,8 @@ pub enum Digits {
     Other,
 }
 
-// Digits before the point that a word has room for, and those behind it.
-const WHOLE_TAKEN: usize = 5;
-
-const PART_DIGITS: usize = 3;
+// Digits before the point that a word has room for, beside those behind it.
+const WHOLE_TAKEN: usize = WORD - PART_DIGITS;
 
 // The bytes of a word, and words of eight equal bytes.
 const WORD: usize = 8;

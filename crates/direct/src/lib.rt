@@ -1,7 +1,7 @@
 // The fast way through a detail line: the whole line is read straight on the piece, with no search for its LF and no cutting into fields.
 //
 // It takes the common lines, whose values have at most eight bytes and five digits before the point; `any::read_any` takes values of any
-// length, and is for a line that is left. Both take lines with and without a CR, and want 67 bytes of the piece, the longest such line. For any
+// length, and is for a line that is left. Both take lines with and without a CR, and want as many bytes of the piece as the longest such line has. For any
 // other, right or wrong, they answer `Other`, and the plain reader of `details` decides:
 //
 //     match direct::read_direct(piece, at, k) {
@@ -22,10 +22,14 @@ ghost use Rattle.text.specs.Field.{comma};
 ghost use Rattle.details.specs.Detail.{detailCode};
 ghost use Rattle.direct.specs.Direct.{directSays};
 ghost use Rattle.direct.specs.Guess.{windowSize, codeSize, EndsAt};
+use crate::triple::TAIL;
 use crate::triple::Triple;
 use crate::triple::read_triple;
 use crate::word::number;
 use details::detail::Interval;
+use details::detail::PER_ROW;
+use details::value::PART_DIGITS;
+use details::value::WHOLE_DIGITS;
 use lines::line::CR;
 use lines::line::LF;
 
@@ -40,10 +44,14 @@ pub enum Direct {
     Other,
 }
 
-const WINDOW: usize = 67;
-
 // A detail line's code with its comma.
 const CODE: usize = 9;
+
+// The longest value.
+const VALUE: usize = WHOLE_DIGITS + 1 + PART_DIGITS;
+
+// The longest line that is taken, with CR and LF.
+const WINDOW: usize = CODE + PER_ROW as usize * (VALUE + TAIL) + 2;
 
 // Whether the window begins with the code of detail row k and a comma.
 fn begins_code(t: &[u8], k: u32) -> bool

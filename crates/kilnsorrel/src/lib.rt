@@ -21,6 +21,7 @@ use estimates::estimates;
 use loader::fresh;
 use loader::words::feed_words;
 use loader::words::finish_words;
+use state::SPAN;
 use state::STATE_WORDS;
 use state::put_state;
 use state::state_in;
@@ -28,15 +29,12 @@ use writer::write;
 
 mod state;
 
-// How many numbers half of an answer can be.
-const SPAN: u64 = 4294967296;
-
 // The number in the high half, the count or length in the low one.
 fn packed(number: u32, count: usize) -> u64
     requires { ⌜ count < 2 ^ wordBits ⌝ }
     ensures { λ r. ⌜ Packs number count r ⌝ }
 {
-    number as u64 * SPAN + count as u64
+    number as u64 * SPAN as u64 + count as u64
 }
 
 #[no_mangle]

@@ -9,6 +9,7 @@ ghost use Rattle.kilnsorrel.specs.Layout.{stateWords, unitSize, bytesIn,
 ghost use Rattle.kilnsorrel.specs.Private.{putAt, Sized, PartsPut};
 use cell::Cell;
 use cell::load::copy;
+use cell::mark::WORD_BITS;
 use headers::one::Channel;
 use loader::State;
 use pieces::keep::KEPT_LIMIT;
@@ -19,7 +20,7 @@ use text::names::ESI_ID_SIZE;
 use units::Unit;
 
 // How many numbers a word can be.
-const SPAN: usize = 4294967296;
+pub const SPAN: usize = 1 << WORD_BITS;
 
 // Where each part begins, behind the kept bytes.
 const NUMBERS_AT: usize = KEPT_LIMIT;

@@ -17,7 +17,7 @@ use Rattle.details.specs.declared.detail.Interval.{Interval}
 use Rattle.registry.specs.Entry.{ownerSize}
 use Rattle.cell.specs.Layout.{Words, width}
 use Rattle.cell.specs.Read.{withIntervals}
-use Rattle.plain.specs.Rows.{rulesOf, headerRows, maxDetails, withRow, afterDetail}
+use Rattle.plain.specs.Rows.{Rules, rulesOf, headerRows, maxDetails, withRow, afterDetail}
 use Rattle.plain.specs.Table.{loadAll}
 use Rattle.plain.specs.Loader.{takesRows, settle, Scan, scan, stepLine, scanTo, scanEvents, entriesOf, loadsOf}
 use Rattle.plain.specs.Promise.{cutScan, detailsIn}
@@ -112,6 +112,29 @@ module _ (reg kept : Bytes) (lines first : ℕ) (p : Progress) (id sender : Byte
               };
         })
 
+-- ---- LINES OF WHICH NOTHING IS SAID, AND WHAT COMES BEHIND THEM
+
+pub quiet-ran : (R : Rules) (kept : Bytes) (lines : ℕ) (unit : KeptUnit) (id sender : Bytes) (words : Words) (lines' : ℕ) (unit' : KeptUnit) (sender' : Bytes)
+    (words' : Words) (bytes : Bytes) (t : Words)
+    → scanTo R (scanOf kept 0 lines unit id sender words) bytes ≡ scanOf kept 0 lines' unit' id sender' words'
+    → scanEvents R (scanOf kept 0 lines unit id sender words) bytes ≡ []
+    → Ran R (scanOf kept 0 lines unit id sender words) bytes (scanOf kept 0 lines' unit' id sender' words') [] t t
+unfolding entriesOf loadsOf loadAll
+quiet-ran R kept lines unit id sender words lines' unit' sender' words' bytes t reaches quiet =
+    record { reaches = sym (ap cutScan reaches); tells = record { entered = rw quiet; loads = rw quiet } }
+
+pub moves-then : (reg : Bytes) (from to : Scan) (piece : Bytes) (at e : ℕ) → at ≤ e → (m : Moved) (kept id sender : Bytes) (words t t' : Words)
+    → Ran (rulesOf reg) from (between at e piece) to [] t t → Moves reg to piece e m kept id sender words t t' → Moves reg from piece at m kept id sender words t t'
+moves-then reg from to piece at e behind m kept id sender words t t' ran v =
+    record {
+      behind = omega (arith, v .behind);
+      within = v .within;
+      holds = v .holds;
+      ran =
+          rw (between-add piece at e (m .at) behind (omega (arith, v .behind)))
+          (ran-both reg _ _ _ (between at e piece) (between e (m .at) piece) [] (toldIn m) t t t' ran (v .ran));
+    }
+
 -- ---- ROWS, AND WHAT COMES BEHIND THEM
 
 -- detail rows ask nothing of the Sender
@@ -148,12 +171,9 @@ module _ (reg kept : Bytes) (lines first : ℕ) (p : Progress) (id sender : Byte
 
   rows-ran : Ran (rulesOf reg) (scanOf kept 0 lines (Takes first p) id sender words) (between at (r .at) piece)
       (scanOf kept 0 (r .lines) (Takes first (r .progress)) id sender' words') [] t t
-  unfolding entriesOf loadsOf loadAll
   rows-ran =
-      record {
-        reaches = sym (ap cutScan (rows .reaches reg id first));
-        tells = record { entered = rw (rows .quiet reg id first); loads = rw (rows .quiet reg id first) };
-      }
+      quiet-ran (rulesOf reg) kept lines (Takes first p) id sender words (r .lines) (Takes first (r .progress)) sender' words' (between at (r .at) piece) t
+      (rows .reaches reg id first) (rows .quiet reg id first)
 
   -- the piece ends behind them
   pub rows-end : at < length piece → r .at ≡ length piece → (m : Moved) → m ≡ movedBehind first r
@@ -163,15 +183,7 @@ module _ (reg kept : Bytes) (lines first : ℕ) (p : Progress) (id sender : Byte
   pub rows-then : (m : Moved) (kept' id' sender₂ : Bytes) (words₂ t' : Words)
       → Moves reg (scanOf kept 0 (r .lines) (Takes first (r .progress)) id sender' words') piece (r .at) m kept' id' sender₂ words₂ t t'
       → Moves reg (scanOf kept 0 lines (Takes first p) id sender words) piece at m kept' id' sender₂ words₂ t t'
-  rows-then m kept' id' sender₂ words₂ t' v =
-      record {
-        behind = omega (arith, rows .behind, v .behind);
-        within = v .within;
-        holds = v .holds;
-        ran =
-            rw (between-add piece at (r .at) (m .at) (rows .behind) (omega (arith, v .behind)))
-            (ran-both reg _ _ _ (between at (r .at) piece) (between (r .at) (m .at) piece) [] (toldIn m) t t t' rows-ran (v .ran));
-      }
+  rows-then m kept' id' sender₂ words₂ t' v = moves-then reg _ _ piece at (r .at) (rows .behind) m kept' id' sender₂ words₂ t t' rows-ran v
 
 -- ---- LINE AFTER LINE
 

@@ -9,47 +9,35 @@ use native.Mathlib.Omega.{arith}
 use lib.ListN.{length}
 use borrow.Author.Tests.{not-false}
 use Rattle.text.specs.Byte.{Bytes}
+use Rattle.text.proofs.Truth.{apart}
 use Rattle.lines.specs.Line.{LF, Line, endedLine, dropCR, kindOf}
 use Rattle.lines.specs.declared.line.Kind.{Kind}
 use Rattle.lines.specs.declared.line.Kind.the-variants.{Empty, Opener, Detail, Other}
 use Rattle.cell.specs.Layout.{Words}
 use Rattle.plain.specs.Rows.{rulesOf}
-use Rattle.plain.specs.Table.{loadAll}
-use Rattle.plain.specs.Loader.{skips, scan, stepKind, stepLine, scanTo, scanEvents, entriesOf, loadsOf}
+use Rattle.plain.specs.Loader.{skips, scan, stepKind, stepLine, scanTo, scanEvents}
 use Rattle.plain.specs.Call.{byteLimit}
-use Rattle.plain.specs.Promise.{cutScan}
 use Rattle.units.specs.declared.Unit.the-variants.{Skips}
 use Rattle.pieces.specs.declared.skip.Skipped.{Skipped}
 use Rattle.pieces.specs.declared.line.Moved.{Moved}
-use Rattle.pieces.specs.Ran.{between, LineEnd, scanOf, Ran, Holds, SkipsTo, movedOver, toldIn, Moves}
+use Rattle.pieces.specs.Ran.{between, LineEnd, scanOf, Ran, Holds, isSkipped, SkipsTo, movedOver, Moves}
 use Rattle.pieces.proofs.Ends.{between-add, with-LF}
-use Rattle.pieces.proofs.Running.{more-to, more-quiet, ran-both}
+use Rattle.pieces.proofs.Running.{more-to, more-quiet}
+use Rattle.pieces.proofs.Moving.{quiet-ran, moves-then}
 
 -- ---- ONE LINE
 
--- one of another kind is no opener
-pub no-opener : (k : Kind) (body raw : Bytes) → k ≡ kindOf body → body ≡ dropCR raw → (k ≡ Opener → ⊥) → kindOf (dropCR raw) ≡ Opener → ⊥
-no-opener k body raw e b other o = other (e ∙ ap kindOf b ∙ o)
-
-pub no-empty : (k : Kind) → k ≡ Empty → k ≡ Opener → ⊥
-no-empty k e o = let z : _≡_ {A = ℕ} 0 1 = cc in omega arith
-
-pub no-detail : (k : Kind) → k ≡ Detail → k ≡ Opener → ⊥
-no-detail k e o = let z : _≡_ {A = ℕ} 0 1 = cc in omega arith
-
-pub no-other : (k : Kind) → k ≡ Other → k ≡ Opener → ⊥
-no-other k e o = let z : _≡_ {A = ℕ} 0 1 = cc in omega arith
-
-other-kind : (reg : Bytes) (n : ℕ) (l : Line) (k : Kind) → (k ≡ Opener → ⊥) → stepKind (rulesOf reg) k n l skips ≡ record { unit = skips; events = [] }
+skip-kind : (reg : Bytes) (n : ℕ) (l : Line) (k : Kind) → isSkipped k ≡ true → stepKind (rulesOf reg) k n l skips ≡ record { unit = skips; events = [] }
 unfolding stepKind
-other-kind reg n l Empty h = refl
-other-kind reg n l Opener h = absurd (h refl)
-other-kind reg n l Detail h = refl
-other-kind reg n l Other h = refl
+skip-kind reg n l Empty h = refl
+skip-kind reg n l Opener h = absurd (apart h)
+skip-kind reg n l Detail h = refl
+skip-kind reg n l Other h = refl
 
-skip-step : (reg raw : Bytes) (n : ℕ) → (kindOf (dropCR raw) ≡ Opener → ⊥) → stepLine (rulesOf reg) n (endedLine raw) skips ≡ record { unit = skips; events = [] }
+skip-step : (reg raw : Bytes) (n : ℕ) → isSkipped (kindOf (dropCR raw)) ≡ true
+    → stepLine (rulesOf reg) n (endedLine raw) skips ≡ record { unit = skips; events = [] }
 unfolding stepLine endedLine
-skip-step reg raw n h = other-kind reg n _ (kindOf (dropCR raw)) h
+skip-step reg raw n h = skip-kind reg n _ (kindOf (dropCR raw)) h
 
 -- ---- LINES
 
@@ -61,9 +49,9 @@ skips-begin lines piece at within fits =
     record { behind = omega arith; within = within; fits = fits; reaches = λ reg. rw z; quiet = λ reg. rw z }
 
 pub skips-again : (lines : ℕ) (piece : Bytes) (at n e : ℕ) → SkipsTo lines piece at (record { lines = n; at = e }) → (end : ℕ) → LineEnd piece e end
-    → end < length piece → (r : Bool) → (r ≡ true → kindOf (dropCR (between e end piece)) ≡ Opener → ⊥) → not r ≡ false
+    → end < length piece → (r : Bool) → r ≡ isSkipped (kindOf (dropCR (between e end piece))) → not r ≡ false
     → SkipsTo lines piece at (record { lines = n + 1; at = end + 1 })
-skips-again lines piece at n e inv end E inside r other t =
+skips-again lines piece at n e inv end E inside r is t =
     record {
       behind = omega (arith, inv .behind, E .none .behind);
       within = omega arith;
@@ -82,7 +70,7 @@ skips-again lines piece at n e inv end E inside r other t =
         ∙ ap (λ s. between at e piece ++ s) (with-LF piece e end E inside)
 
     step : (reg : Bytes) → stepLine (rulesOf reg) (suc n) (endedLine (between e end piece)) skips ≡ record { unit = skips; events = [] }
-    step reg = skip-step reg (between e end piece) (suc n) (other (not-false r t))
+    step reg = skip-step reg (between e end piece) (suc n) (sym is ∙ not-false r t)
 
 -- ---- AND WHAT COMES BEHIND THEM
 
@@ -92,12 +80,7 @@ module _ (reg kept : Bytes) (lines : ℕ) (id sender : Bytes) (words : Words) (p
   skip-holds = record { keptSized = h .keptSized; few = h .few; sized = h .sized; details = h .details; fits = skipped .fits }
 
   skip-ran : Ran (rulesOf reg) (scanOf kept 0 lines Skips id sender words) (between at (s .at) piece) (scanOf kept 0 (s .lines) Skips id sender words) [] t t
-  unfolding entriesOf loadsOf loadAll
-  skip-ran =
-      record {
-        reaches = sym (ap cutScan (skipped .reaches reg));
-        tells = record { entered = rw (skipped .quiet reg); loads = rw (skipped .quiet reg) };
-      }
+  skip-ran = quiet-ran (rulesOf reg) kept lines Skips id sender words (s .lines) Skips sender words (between at (s .at) piece) t (skipped .reaches reg) (skipped .quiet reg)
 
   -- the piece ends behind them
   pub skip-end : at < length piece → s .at ≡ length piece → (m : Moved) → m ≡ movedOver s
@@ -107,12 +90,4 @@ module _ (reg kept : Bytes) (lines : ℕ) (id sender : Bytes) (words : Words) (p
   pub skip-then : (m : Moved) (kept' id' sender' : Bytes) (words' t' : Words)
       → Moves reg (scanOf kept 0 (s .lines) Skips id sender words) piece (s .at) m kept' id' sender' words' t t'
       → Moves reg (scanOf kept 0 lines Skips id sender words) piece at m kept' id' sender' words' t t'
-  skip-then m kept' id' sender' words' t' v =
-      record {
-        behind = omega (arith, skipped .behind, v .behind);
-        within = v .within;
-        holds = v .holds;
-        ran =
-            rw (between-add piece at (s .at) (m .at) (skipped .behind) (omega (arith, v .behind)))
-            (ran-both reg _ _ _ (between at (s .at) piece) (between (s .at) (m .at) piece) [] (toldIn m) t t t' skip-ran (v .ran));
-      }
+  skip-then m kept' id' sender' words' t' v = moves-then reg _ _ piece at (s .at) (skipped .behind) m kept' id' sender' words' t t' skip-ran v

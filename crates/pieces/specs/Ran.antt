@@ -8,6 +8,8 @@ use Prim.Native.Nat.{ℕ, zero, suc, _+_, _-_, _*_, _<_, _≤_}
 use lib.ListN.{length, take, drop, getD}
 use Rattle.text.specs.Byte.{Bytes}
 use Rattle.lines.specs.Line.{LF, NoLF, endedLine}
+use Rattle.lines.specs.declared.line.Kind.{Kind}
+use Rattle.lines.specs.declared.line.Kind.the-variants.{Empty, Opener, Detail, Other}
 use Rattle.details.specs.Detail.{perRow}
 use Rattle.details.specs.declared.detail.Interval.{Interval}
 use Rattle.direct.specs.Direct.{DetailLine}
@@ -114,6 +116,13 @@ pub record RowsRan (p : Progress) (lines : ℕ) (piece : Bytes) (at : ℕ) (befo
       ≡ scan [] (r .lines) (takesRows first (rowsOf (r .progress) id sender after))
   pub quiet : (reg id sender : Bytes) (first : ℕ)
       → scanEvents (rulesOf reg) (scan [] lines (takesRows first (rowsOf p id sender before))) (between at (r .at) piece) ≡ []
+
+-- whether a unit that skips lets a line go by: any but an opener
+abbrev pub isSkipped : Kind → Bool
+isSkipped Opener = false
+isSkipped Empty = true
+isSkipped Detail = true
+isSkipped Other = true
 
 -- lines skipped from a place on: nothing is said
 pub record SkipsTo (lines : ℕ) (piece : Bytes) (at : ℕ) (r : Skipped) : Type 0 where

@@ -1,15 +1,13 @@
 // Lines that a unit skips: all up to the next opener. They go by without a step of the unit for each.
 ghost use mathlib.Core.Path.{_≡_};
-ghost use mathlib.Core.Bool.{true};
 ghost use Prim.Native.Nat.{_+_, _-_, _<_, _≤_};
 ghost use lib.ListN.{length};
 ghost use Rattle.lines.specs.Line.{dropCR, kindOf};
-ghost use Rattle.lines.specs.declared.line.Kind.the-variants.{Opener};
 ghost use Rattle.plain.specs.Call.{byteLimit};
 ghost use Rattle.records.specs.Answer.{Indexed};
 ghost use Rattle.units.specs.declared.Unit.the-variants.{Skips};
 ghost use Rattle.units.specs.Answer.{HasRoom};
-ghost use Rattle.pieces.specs.Ran.{scanOf, Holds, SkipsTo, movedOver, Moves};
+ghost use Rattle.pieces.specs.Ran.{scanOf, Holds, isSkipped, SkipsTo, movedOver, Moves};
 use crate::end::line_end;
 use crate::line::Moved;
 use crate::line::plain_line;
@@ -28,7 +26,7 @@ pub struct Skipped {
 
 // Whether a line, given by the bytes before its LF, is skipped: any but an opener.
 fn is_skipped(raw: &[u8]) -> bool
-    ensures { λ r. ⌜ (r ≡ true → kindOf (dropCR (now (raw .entry))) ≡ Opener → ⊥) ⌝ }
+    ensures { λ r. ⌜ r ≡ isSkipped (kindOf (dropCR (now (raw .entry)))) ⌝ }
 {
     match kind_of(without_cr(raw)) {
         Kind::Empty => true,
