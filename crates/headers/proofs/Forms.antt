@@ -13,13 +13,11 @@ use lib.Seq.{drop-cons, drop-drop}
 use borrow.Author.Tests.{leb-true, not-true, not-false}
 use Rattle.text.specs.Byte.{Bytes, ascii, isDigit, every, equals, isEmpty}
 use Rattle.text.specs.Field.{cut, firstField, afterField}
-use Rattle.text.specs.Number.{number, numberFrom, leading, behind, Digits}
+use Rattle.text.specs.Number.{number, leading, behind, Digits}
 use Rattle.text.proofs.Truth.{and-left, and-right}
-use Rattle.text.proofs.Equal.{equals-path}
 use Rattle.text.proofs.Left.{left-cons, left-none}
 use Rattle.text.proofs.Decimal.{run-drop, run-stops}
 use Rattle.text.proofs.Comma.{cut-head, cut-more, cut-at, field-drop, field-within}
-use Rattle.lines.specs.Line.{isLong}
 use Rattle.lines.specs.Outcome.{passed, refused}
 use Rattle.lines.specs.Row.{fieldsOf}
 use Rattle.lines.specs.Verdict.{misfit}
@@ -173,15 +171,3 @@ module _ (line : Bytes) (cr : Bool) (b : Begun) (eb : begunSays b line ≡ field
   pub two-refused : (p && q) ≡ false → refused misfit ≡ rowTwo (lineOf line cr)
   unfolding rowTwo twoOf
   two-refused h = rw (← eb, hb, ← ep, ← eq, h)
-
--- the usual row, with a CR and without
-unfoldable pub usual : Bytes
-usual = ascii "00000002,0,0,0,,0,,900,01,1,-1,0.0,0.0,CST"
-
-usual-passes : (cr : Bool) → passed tt ≡ rowTwo (lineOf usual cr)
-unfolding usual every equals isEmpty cut numberFrom leading behind isLong fieldsOf decimalParts isDecimal fitsForm fitAll upToDigits twoOf rowTwo
-usual-passes true = refl
-usual-passes false = refl
-
-pub two-usual : (line : Bytes) (cr r : Bool) → r ≡ equals line usual → r ≡ true → passed tt ≡ rowTwo (lineOf line cr)
-two-usual line cr r e h = rw (equals-path line usual (sym e ∙ h)) (usual-passes cr)

@@ -4,5 +4,3 @@ pub mod Span
 pub mod Forms
 pub mod Pairs
 pub mod Passed
-pub mod Usual
-pub mod UsualOne

@@ -1,14 +1,11 @@
 -- The header readers' answers, as what document 01 says of the row: its values, or the number of its verdict.
 -- Assumes nothing.
-use mathlib.Core.Path.{_≡_}
 use Prim.Native.Nat.{ℕ}
 use Rattle.text.specs.Byte.{Bytes}
-use Rattle.lines.specs.Line.{Line}
 use Rattle.lines.specs.Outcome.{Outcome, passed, refused}
 use Rattle.lines.specs.Verdict.{misfit}
 use Rattle.lines.specs.Answer.{textAt}
-use Rattle.headers.specs.One.{RowOne, rowOne}
-use Rattle.headers.specs.Four.{rowFour}
+use Rattle.headers.specs.One.{RowOne}
 use Rattle.headers.specs.declared.time.Time.{Time}
 use Rattle.headers.specs.declared.time.TimeRead.{TimeRead}
 use Rattle.headers.specs.declared.time.TimeRead.the-variants.{At, Misfit}
@@ -20,12 +17,8 @@ use Rattle.headers.specs.declared.one.DayRead.{DayRead}
 use Rattle.headers.specs.declared.one.DayRead.the-variants.{Date, Refused as DayRefused}
 use Rattle.headers.specs.declared.one.One.{One}
 use Rattle.headers.specs.declared.one.One.the-variants.{Passed as OnePassed, Refused as OneRefused}
-use Rattle.headers.specs.declared.one.UsualOne.{UsualOne}
-use Rattle.headers.specs.declared.one.UsualOne.the-variants.{Is as OneIs, Other as OneOther}
 use Rattle.headers.specs.declared.four.Four.{Four}
 use Rattle.headers.specs.declared.four.Four.the-variants.{Passed as FourPassed, Refused as FourRefused}
-use Rattle.headers.specs.declared.four.UsualFour.{UsualFour}
-use Rattle.headers.specs.declared.four.UsualFour.the-variants.{Is as FourIs, Other as FourOther}
 use Rattle.headers.specs.declared.thirty.Thirty.{Thirty}
 use Rattle.headers.specs.declared.thirty.Thirty.the-variants.{Passed as ThirtyPassed, Refused as ThirtyRefused}
 
@@ -52,12 +45,3 @@ fourSays (FourRefused v) = refused v
 abbrev pub thirtySays : Thirty → Bytes → Outcome Bytes
 thirtySays (ThirtyPassed sender) line = passed (textAt sender line)
 thirtySays (ThirtyRefused v) line = refused v
-
--- THE USUAL ROWS: where a line is taken for one, its row's rule gives the same; where it is not, nothing is said of it
-abbrev pub UsualOneSays : UsualOne → Line → Type 0
-UsualOneSays (OneIs id c d) l = passed (record { esiId = textAt id (l .body); channel = c; day = d }) ≡ rowOne l
-UsualOneSays OneOther l = Unit {0}
-
-abbrev pub UsualFourSays : UsualFour → Line → Type 0
-UsualFourSays (FourIs s) l = passed s ≡ rowFour l
-UsualFourSays FourOther l = Unit {0}

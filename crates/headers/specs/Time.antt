@@ -56,9 +56,11 @@ isBelow start stop = ltb (moment start) (moment stop)
 abbrev pub dayStop : ℕ
 dayStop = 235900
 
+-- The clock times that stop a day. For whoever changes it: the stop is read in a second, quick place too, usual::one, which looks for the digits of
+-- `dayStop` alone; `stopText` in usual/proofs/UsualOne shows that they stop a day.
 unfoldable pub stopsDay : ℕ → Bool
 stopsDay clock = eqb clock dayStop
 
--- start is 000000 of a day and stop 235900 of that day
+-- start is 000000 of a day and stop the stop of that day
 unfoldable pub isWholeDay : Time → Time → Bool
 isWholeDay start stop = eqb (start .clock) 0 && eqb (stop .date) (start .date) && stopsDay (stop .clock)

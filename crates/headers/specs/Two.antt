@@ -9,7 +9,7 @@ use lib.ListN.{length}
 use Rattle.text.specs.Byte.{Bytes, ascii, isDigit, isEmpty, every, equals}
 use Rattle.text.specs.Number.{number, leading, behind}
 use Rattle.lines.specs.Line.{Line}
-use Rattle.lines.specs.Outcome.{Outcome, require, _>>=_, _>>_}
+use Rattle.lines.specs.Outcome.{Outcome, require, _>>=_}
 use Rattle.lines.specs.Row.{fieldsOf, _!_}
 use Rattle.lines.specs.Verdict.{misfit}
 

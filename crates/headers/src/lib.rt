@@ -7,11 +7,11 @@
 //         One::Refused(verdict) => ..           // the first test that fails: 11, 13, 14, then the fields, then 16 and 17
 //     }
 //
-// Nearly every row has one shape, with its parts at known places: `usual_..` tells such a line by a few tests and takes its parts at
-// once. It owes the row's rule only where it takes a line; any other is read field by field.
+// Each reads field by field; crate `usual` has a quick way through rows as nearly every file has them, with the same promises.
 //
 // For whoever changes it: a row's rule is its definition in specs/ (One.antt and so on) and nothing else; the stop of a day is
-// `time::stops_day`, a read's stamp is `time::Stamp`, row two's forms are the table in `two`.
+// `time::stops_day`, a read's stamp is `time::Stamp`, row two's forms are the table in `two`. The stop of a day is read in a second, quick place
+// too, `usual::one`, which looks for the digits of `time::DAY_STOP`: another stop that is taken here and not there is right, and slow.
 pub mod four;
 pub mod one;
 pub mod thirty;

@@ -1,10 +1,7 @@
 // Row thirty: names with their DUNS numbers; the Sender's is what the loader wants of it.
 ghost use mathlib.Core.Path.{_≡_};
-ghost use mathlib.Core.Bool.{Bool, true};
-ghost use lib.ListN.{take, drop};
 ghost use Rattle.text.specs.Byte.{ascii};
 ghost use Rattle.text.specs.Field.{cut, fieldAt};
-ghost use Rattle.lines.specs.Outcome.{passed};
 ghost use Rattle.lines.specs.Row.{Due};
 ghost use Rattle.headers.specs.Thirty.{hasDuns, endsThirty, thirtyOf, rowThirty};
 ghost use Rattle.lines.specs.Answer.{lineOf};
@@ -14,9 +11,7 @@ use lines::row::Place;
 use lines::row::begin;
 use lines::row::start_of;
 use lines::verdict::MISFIT;
-use text::bytes::all_digits;
 use text::bytes::begins;
-use text::bytes::is_empty;
 use text::bytes::same;
 use text::fields::after;
 use text::fields::behind;
@@ -24,25 +19,6 @@ use text::fields::field;
 use text::names::is_duns;
 
 const SENDER_NAME_SIZE: usize = 7;
-
-// Row thirty as nearly every file has it: MRE's and Sender's numbers have nine digits, so that everything stands at a known place.
-const USUAL_HEAD: [u8; 35] = *b"00000030,ATTRIBUTE_VALUE_PAIRS,MRE=";
-
-const USUAL_SENDER: [u8; 8] = *b",Sender=";
-
-const USUAL_TAIL: [u8; 24] = *b",Receiver=183529049,REP=";
-
-const MRE_AT: usize = 35;
-
-const MRE_END: usize = 44;
-
-const SENDER_AT: usize = 52;
-
-const SENDER_END: usize = 61;
-
-const SENDER_SIZE: usize = 9;
-
-const REP_AT: usize = 85;
 
 // The place of the Sender's number, or the verdict.
 pub enum Thirty {
@@ -92,32 +68,9 @@ fn read_fields(line: &[u8]) -> Thirty
     })
 }
 
-// Whether a line is a usual row thirty, which passes without a walk along its fields. The tests are joined and none ends them early:
-// they look at few bytes, and a branch at each would cost more.
-fn usual_thirty(line: &[u8]) -> bool
-    ensures { λ r. ⌜ (r ≡ true → (cr : Bool) → passed (take 9 (drop 52 (now (line .entry)))) ≡ rowThirty (lineOf (now (line .entry)) cr)) ⌝ }
-{
-    if line.len() < REP_AT {
-        return false;
-    }
-    let rep = &line[REP_AT..];
-    begins(line, &USUAL_HEAD)
-        & all_digits(&line[MRE_AT..MRE_END])
-        & same(&line[MRE_END..SENDER_AT], &USUAL_SENDER)
-        & all_digits(&line[SENDER_AT..SENDER_END])
-        & same(&line[SENDER_END..REP_AT], &USUAL_TAIL)
-        & (is_empty(rep) | is_duns(rep))
-}
-
 pub fn read_thirty(line: &[u8], cr: bool) -> Thirty
     ensures { λ r. ⌜ thirtySays r (now (line .entry)) ≡ rowThirty (lineOf (now (line .entry)) cr) ⌝ }
 {
-    if usual_thirty(line) {
-        return Thirty::Passed(Place {
-            at: SENDER_AT,
-            len: SENDER_SIZE,
-        });
-    }
     match begin(line, cr, b"00000030", 6) {
         Begun::Refused(verdict) => Thirty::Refused(verdict),
         Begun::Fields => read_fields(line),

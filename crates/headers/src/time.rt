@@ -13,8 +13,8 @@ use text::numbers::number_of;
 const DATE_SIZE: usize = 8;
 
 const TIME_SIZE: usize = 14;
-// 23:59:00
-const DAY_STOP: u32 = 235900;
+// 23:59:00. Row one is written with it (rowtext), and `usual::one` has its digits as bytes.
+pub const DAY_STOP: u32 = 235900;
 
 // A date YYYYMMDD and a time of day HHMMSS.
 pub struct Time {

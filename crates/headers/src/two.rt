@@ -5,7 +5,6 @@ ghost use lib.ListN.{length, getD};
 ghost use Rattle.text.specs.Byte.{ascii};
 ghost use Rattle.text.specs.Field.{cut};
 ghost use Rattle.lines.specs.Row.{Due};
-ghost use Rattle.text.specs.Byte.{isEmpty};
 ghost use Rattle.headers.specs.Two.{isDecimal, upToDigits, isUnitCode, isZoneCount, fitsForm, rowTwoForms, fitAll, hasMultiplier, rowTwo};
 ghost use Rattle.lines.specs.Answer.{lineOf, checkedSays};
 use lines::row::Begun;
@@ -20,9 +19,6 @@ use text::fields::behind;
 use text::fields::field;
 use text::numbers::digits;
 use text::numbers::number_of;
-
-// Row two as nearly every file has it: a line that is the same passes at once, without a walk along its fields.
-const USUAL: [u8; 42] = *b"00000002,0,0,0,,0,,900,01,1,-1,0.0,0.0,CST";
 
 const FIELDS: usize = 14;
 // The form of each field, by its code in `fits`.
@@ -125,9 +121,6 @@ fn has_multiplier(line: &[u8]) -> bool
 pub fn read_two(line: &[u8], cr: bool) -> Checked
     ensures { λ r. ⌜ checkedSays r ≡ rowTwo (lineOf (now (line .entry)) cr) ⌝ }
 {
-    if same(line, &USUAL) {
-        return Checked::Passed;
-    }
     match begin(line, cr, b"00000002", 14) {
         Begun::Refused(verdict) => Checked::Refused(verdict),
         Begun::Fields => {

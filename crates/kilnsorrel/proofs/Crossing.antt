@@ -8,11 +8,11 @@ use Rattle.cell.specs.Layout.{Words}
 use Rattle.cells.specs.Refusal.{done, badState}
 use Rattle.plain.specs.Call.{Asked, fresh}
 use Rattle.plain.specs.Promise.{viewFrom}
-use Rattle.loader.specs.declared.State.{State}
-use Rattle.loader.specs.declared.Fed.{Fed}
-use Rattle.loader.specs.View.{viewOf}
+use Rattle.state.specs.declared.State.{State}
+use Rattle.state.specs.View.{viewOf}
+use Rattle.batches.specs.declared.Fed.{Fed}
 use Rattle.loader.specs.Words.{WordsKeep}
-use Rattle.kilnsorrel.specs.Layout.{stateWords, stateIn}
+use Rattle.statewords.specs.Layout.{stateWords, stateIn}
 use Rattle.kilnsorrel.specs.Border.{Packs, Freshens, Call}
 
 module _ (before : Words) (r : ℕ) where

@@ -32,9 +32,9 @@ use Rattle.plain.specs.Promise.{View, overfull, codeNumber, codeCall}
 use Rattle.plain.proofs.Calls.{allowed}
 use Rattle.plain.proofs.Rules.{lawful}
 use Rattle.plain.proofs.Room.{feed-room, finish-room}
-use Rattle.loader.specs.declared.State.{State}
-use Rattle.loader.specs.declared.Fed.{Fed}
-use Rattle.loader.specs.View.{viewOf}
+use Rattle.state.specs.declared.State.{State}
+use Rattle.state.specs.View.{viewOf}
+use Rattle.batches.specs.declared.Fed.{Fed}
 use Rattle.loader.specs.Words.{WordsKeep}
 
 -- ---- FEED AND FINISH: a call that is done has a piece of at most 200,000,000 bytes, and one entry for two of them

@@ -6,14 +6,14 @@ use lib.ListN.{length}
 use Rattle.text.specs.Byte.{Bytes}
 use Rattle.cell.specs.Layout.{Words, wordBits}
 use Rattle.cells.specs.Refusal.{done, badState}
-use Rattle.plain.specs.Call.{Asked, fresh}
-use Rattle.plain.specs.Promise.{viewFrom}
 use Rattle.estimates.specs.declared.Counted.{Counted}
 use Rattle.writer.specs.declared.Written.{Written}
-use Rattle.loader.specs.declared.Fed.{Fed}
-use Rattle.loader.specs.View.{viewOf}
+use Rattle.plain.specs.Call.{Asked, fresh}
+use Rattle.plain.specs.Promise.{viewFrom}
+use Rattle.state.specs.View.{viewOf}
+use Rattle.batches.specs.declared.Fed.{Fed}
 use Rattle.loader.specs.Words.{WordsKeep}
-use Rattle.kilnsorrel.specs.Layout.{stateWords, stateIn}
+use Rattle.statewords.specs.Layout.{stateWords, stateIn}
 
 -- one number for an answer: the number returned in the high half, the count or length in the low one
 pub record Packs (number count r : ℕ) : Type 0 where

@@ -6,28 +6,26 @@
 //     uint32_t number = answer >> 32;              // 0 done, else document 01's refusal
 //     uint32_t entries = (uint32_t)answer;         // five words of the report for each
 //
-// For whoever changes it: a state crosses the border as words, by specs/Layout.antt; whatever they hold, they are some state. A run of another length
-// is refused 1. What the calls do is loader's, estimates' and writer's; here is only how it is asked and answered.
+// For whoever changes it: a state crosses the border as words, by statewords/specs/Layout.antt; whatever they hold, they are some state. A run of another
+// length is refused 1. What the calls do is loader's, estimates' and writer's; here is only how it is asked and answered.
 ghost use mathlib.Core.Path.{_≡_};
 ghost use Prim.Native.Nat.{_^_, _<_};
 ghost use Rattle.cell.specs.Layout.{wordBits};
-ghost use Rattle.kilnsorrel.specs.Border.{Packs, PacksCounted, PacksWritten, Freshens, Call};
-ghost use Rattle.plain.specs.Call.{feed, finish};
 ghost use Rattle.estimates.specs.Estimates.{estimatesOf};
 ghost use Rattle.writer.specs.Write.{writes, answer, outputWith};
+ghost use Rattle.plain.specs.Call.{feed, finish};
+ghost use Rattle.kilnsorrel.specs.Border.{Packs, PacksCounted, PacksWritten, Freshens, Call};
 use cells::refusal::BAD_STATE;
 use cells::refusal::DONE;
 use estimates::estimates;
-use loader::fresh;
 use loader::words::feed_words;
 use loader::words::finish_words;
-use state::SPAN;
-use state::STATE_WORDS;
-use state::put_state;
-use state::state_in;
+use state::fresh;
+use statewords::SPAN;
+use statewords::STATE_WORDS;
+use statewords::put_state;
+use statewords::state_in;
 use writer::write;
-
-mod state;
 
 // The number in the high half, the count or length in the low one.
 fn packed(number: u32, count: usize) -> u64

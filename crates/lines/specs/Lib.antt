@@ -2,5 +2,6 @@
 pub mod Verdict
 pub mod Outcome
 pub mod Line
+pub mod End
 pub mod Row
 pub mod Answer

@@ -49,6 +49,10 @@ lastLine s = record { body = s; cr = false }
 abbrev pub lineLimit : ℕ
 lineLimit = 200
 
+-- as many bytes of a line tell its kind, and that it is long
+abbrev pub keptLimit : ℕ
+keptLimit = lineLimit + 1
+
 abbrev pub crSize : Bool → ℕ
 crSize true = 1
 crSize false = 0

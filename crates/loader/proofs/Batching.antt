@@ -6,43 +6,42 @@
 --     end-puts, end-small, ends    the same of `finish`
 -- Assumes nothing.
 use mathlib.Core.Path.{_≡_, refl, sym, ap, _∙_, subst}
-use mathlib.Core.List.{List, [], _∷_, _++_, append-assoc, append-nil}
+use mathlib.Core.List.{List, [], _++_}
 use mathlib.Core.Logic.{_⊎_, inl, inr}
-use mathlib.Core.Bool.{Bool, true, false, cond}
-use Prim.Native.Nat.{ℕ, zero, suc, _+_, _-_, _*_, _/_, _<_, _≤_, _^_}
+use mathlib.Core.Bool.{Bool, true, false}
+use Prim.Native.Nat.{ℕ, zero, suc, _+_, _-_, _<_, _≤_, _^_}
 use native.Mathlib.Omega.{arith}
 use lib.Dec.{eqb, ltb}
-use lib.ListN.{length, take, drop, length-append, length-take, length-map}
-use lib.Seq.{take-all, take-at, drop-at, drop-drop, drop-append-add, length-take-le}
+use lib.ListN.{length, take, drop, length-append, length-map}
+use lib.Seq.{take-all, take-at, drop-drop, drop-append-add, length-take-le}
 use borrow.Author.Tests.{eqb-true, eqb-false, ltb-true, ltb-false}
+use Rattle.lines.specs.End.{between}
+use Rattle.lines.specs.Line.{keptLimit}
 use Rattle.text.specs.Byte.{Bytes}
 use Rattle.cell.specs.Layout.{Words}
 use Rattle.cells.specs.Refusal.{done}
 use Rattle.plain.specs.declared.Entry.{Entry}
 use Rattle.plain.specs.Rows.{rulesOf}
 use Rattle.plain.specs.Table.{loadAll}
-use Rattle.plain.specs.Loader.{Scan, Event, scan, scanTo, scanEvents, endEvents, entriesOf, loadsOf}
+use Rattle.plain.specs.Loader.{Scan, scanTo, scanEvents, endEvents, entriesOf, loadsOf}
 use Rattle.plain.specs.Call.{roomFor, Asked, feed, finish, Call, pieceOf, doneCall, fresh}
-use Rattle.plain.specs.Promise.{keptLimit, cutScan, cutTo, View, viewFrom, Coded, codeNumber, codeCall}
+use Rattle.plain.specs.Promise.{cutScan, cutTo, viewFrom, codeNumber, codeCall}
 use Rattle.plain.proofs.Room.{feed-room, finish-room}
-use Rattle.units.specs.Answer.{Tells}
-use Rattle.pieces.specs.Ran.{between, Ran, perEntry, entryAt, entriesIn, batchSize, batchWords}
-use Rattle.pieces.proofs.Ends.{between-add}
+use Rattle.pieces.specs.Ran.{Ran, entriesIn}
+use Rattle.lines.proofs.Ends.{between-add}
 use Rattle.pieces.proofs.Running.{ran-both, ran-none}
-use Rattle.loader.specs.declared.State.{State}
-use Rattle.loader.specs.declared.Fed.{Fed}
-use Rattle.loader.specs.declared.Batch.{Batch}
-use Rattle.loader.specs.View.{scanIn, viewOf, madeOf, Keeps, FeedKeeps, FinishKeeps}
-use Rattle.loader.specs.Batch.{numberFor, Ready, Starts, Goes, Next, Ended, Ends, Puts, pasted, Small, fedBy, idleAt}
-use Rattle.loader.proofs.Refusals.{Fits}
-use Rattle.loader.proofs.Starting.{fits-state, room-enough}
+use Rattle.state.specs.declared.State.{State}
+use Rattle.state.specs.View.{scanIn, viewOf}
+use Rattle.state.specs.Refused.{numberFor}
+use Rattle.state.proofs.Refusals.{Fits, fits-state, room-enough}
+use Rattle.batches.specs.declared.Fed.{Fed}
+use Rattle.batches.specs.declared.Batch.{Batch}
+use Rattle.batches.specs.Batch.{Ready, Starts, Goes, Next, Ended, Ends, Small, fedBy}
+use Rattle.loader.specs.Keeps.{Keeps, FeedKeeps, FinishKeeps}
+use Rattle.loader.specs.Report.{Puts, pasted}
+use Rattle.loader.proofs.Pasting.{entries-count, none-pasted}
 
 -- ---- lists
-
-pub entries-count : (n : ℕ) (w : Words) → length (entriesIn n w) ≡ n
-unfolding entriesIn
-entries-count zero w = refl
-entries-count (suc n) w = length-append (entriesIn n w) (entryAt w n ∷ []) ∙ omega (arith, entries-count n w)
 
 -- entries put behind those that are there
 paste-behind : (es fs r₀ : List Entry) → pasted (es ++ drop (length es) r₀) (length es) fs ≡ (es ++ fs) ++ drop (length (es ++ fs)) r₀
@@ -59,10 +58,6 @@ unfolding pasted
 paste-front es r₀ =
     let n : 0 + length es ≡ length es = omega arith in
     rw n
-
-pasted-none : (w : Words) (r : List Entry) → pasted r 0 (entriesIn 0 w) ≡ r
-unfolding pasted entriesIn
-pasted-none w r = refl
 
 between-whole : (bs : Bytes) (n : ℕ) → n ≡ length bs → between 0 n bs ≡ bs
 between-whole bs n e = take-all (n - 0) (drop 0 bs) (omega arith)
@@ -368,15 +363,15 @@ module _ (reg : Bytes) (t₀ : Words) (r₀ : List Entry) (s₀ : State) where
       → FinishKeeps s₀ reg t₀ r₀ (fedBy b) t r
   ends t r b h e = by-number (FinishKeeps s₀ reg t₀ r₀ (fedBy b) t r) b done-ends none-ends
     where
-      none-pasted : b .from ≡ 0 → b .count ≡ 0 → pasted r₀ (b .from) (entriesIn (b .count) (b .words)) ≡ r₀
-      none-pasted p q = ap (λ n. pasted r₀ n (entriesIn (b .count) (b .words))) p ∙ ap (λ n. pasted r₀ 0 (entriesIn n (b .words))) q ∙ pasted-none (b .words) r₀
+      nothing-put : b .from ≡ 0 → b .count ≡ 0 → pasted r₀ (b .from) (entriesIn (b .count) (b .words)) ≡ r₀
+      nothing-put p q = ap (λ n. pasted r₀ n (entriesIn (b .count) (b .words))) p ∙ ap (λ n. pasted r₀ 0 (entriesIn n (b .words))) q ∙ none-pasted r₀ 0 (b .words)
 
       none-ends : ¬ (b .number ≡ done) → FinishKeeps s₀ reg t₀ r₀ (fedBy b) t r
       none-ends x =
           let n = idle-none t b h x in
           let z : b .from + b .count ≡ 0 = omega (arith, n .0, n .1) in
           let f : fedBy b ≡ record { number = b .number; count = 0; state = s₀ } = λ i. record { number = b .number; count = z i; state = n .2 i } in
-          let k : r ≡ r₀ = e ∙ none-pasted (n .0) (n .1) in
+          let k : r ≡ r₀ = e ∙ nothing-put (n .0) (n .1) in
           rw (f, h .refused x .0, k) (refusal-keeps reg s₀ t₀ finish r₀ (b .number) (h .number) x)
 
       done-ends : b .number ≡ done → FinishKeeps s₀ reg t₀ r₀ (fedBy b) t r

@@ -17,10 +17,11 @@ use Rattle.plain.specs.Call.{fresh, feed, finish}
 use Rattle.plain.specs.Promise.{viewFrom, Made, Promise, Chain}
 use Rattle.plain.specs.Claim.{Demand3}
 use Rattle.plain.proofs.Demand3.{demand3}
-use Rattle.loader.specs.declared.State.{State}
-use Rattle.loader.specs.View.{viewOf, madeOf}
+use Rattle.state.specs.declared.State.{State}
+use Rattle.state.specs.View.{viewOf}
+use Rattle.loader.specs.Keeps.{madeOf}
 use Rattle.loader.specs.Words.{reportIn}
-use Rattle.loader.proofs.fresh as freshes
+use Rattle.state.proofs.fresh as freshes
 use Rattle.loader.proofs.feed as feeds
 use Rattle.loader.proofs.finish as finishes
 use Rattle.loader.proofs.words.feed_words as feed-words

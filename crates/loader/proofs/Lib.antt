@@ -1,11 +1,6 @@
 -- Laws of the definitions, and what the proofs of the calls share.
--- What a call returns, and how a feed begins.
-pub mod Refusals
-pub mod Starting
--- The batches of a feed, and the end of a file.
-pub mod NextBatch
+-- The batches of a feed, and the last one.
 pub mod Batching
-pub mod Ending
 -- The calls with a report of words.
 pub mod WordsLaws
 -- For the walks of put_batch, feed and finish: entries put into a list, a table or report that is lent again, and each callee's contract as a step.

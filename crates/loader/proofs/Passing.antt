@@ -35,25 +35,26 @@ use denote.Triple.Statement.{Contract}
 use denote.Triple.Spec.{tripleOf}
 use denote.Triple.Walked.{says}
 use Rattle.plain.specs.declared.Entry.{Entry}
-use Rattle.loader.specs.declared.State.{State}
-use Rattle.loader.specs.declared.Batch.{Batch}
-use Rattle.loader.specs.declared.Fed.{Fed}
 use Rattle.pieces.specs.Ran.{entriesIn}
-use Rattle.loader.specs.Batch.{pasted, fedBy, Starts, Goes, Next, Puts, Small, Ends}
+use Rattle.state.specs.declared.State.{State}
+use Rattle.batches.specs.declared.Batch.{Batch}
+use Rattle.batches.specs.declared.Fed.{Fed}
+use Rattle.batches.specs.Batch.{fedBy, Starts, Goes, Next, Small, Ends}
+use Rattle.loader.specs.Report.{pasted, Puts}
 use Rattle.loader.proofs.LentAgain.{lent, Slice}
 use Rattle.plain.proofs.Entry as T
-use Rattle.loader.proofs.State as S
-use Rattle.loader.proofs.State.Laws as S′
-use Rattle.loader.proofs.Batch as D
-use Rattle.loader.proofs.Batch.Laws as D′
-use Rattle.loader.proofs.Fed as F
-use Rattle.loader.proofs.Fed.Laws as F′
-use Rattle.loader.proofs.start as start
-use Rattle.loader.proofs.going as going
-use Rattle.loader.proofs.next_batch as next-batch
-use Rattle.loader.proofs.last_batch as last-batch
+use Rattle.state.proofs.State as S
+use Rattle.state.proofs.State.Laws as S′
+use Rattle.batches.proofs.Batch as D
+use Rattle.batches.proofs.Batch.Laws as D′
+use Rattle.batches.proofs.Fed as F
+use Rattle.batches.proofs.Fed.Laws as F′
+use Rattle.batches.proofs.start as start
+use Rattle.batches.proofs.going as going
+use Rattle.batches.proofs.next_batch as next-batch
+use Rattle.batches.proofs.last_batch as last-batch
 use Rattle.loader.proofs.put_batch as put-batch
-use Rattle.loader.proofs.answer as answer
+use Rattle.batches.proofs.answer as answer
 
 -- the contracts
 module _ {M : Type 1} (𝓤 : URA M) (H : Heap 𝓤) (A : Atoms 𝓤) (mem : Memory → SProp 𝓤) (run : Routine → Fun 𝓤) where

@@ -1,5 +1,6 @@
--- What `put_batch` needs of the definitions that its contract cites: how a report's list grows, entry by entry.
+-- What `put_batch` needs of the definitions that its contract cites: how a report's list grows, entry by entry. `Batching.antt` cites some of it too.
 --     puts-within, puts-worded     what `Puts` says: the entries end within the report, and their words are there
+--     entries-count                as many entries as are asked for
 --     none-pasted                  where no entry is pasted the list is as it was
 --     one-more                     one entry is set after those that are pasted
 --     pasted-as-long               pasting keeps the length
@@ -12,22 +13,20 @@ use native.Mathlib.Omega.{arith}
 use lib.ListN.{length, getD, set, take, drop, length-append, length-drop, take-append-drop}
 use lib.Seq.{set-at, drop-cons, append-snoc, length-take-le}
 use Rattle.plain.specs.declared.Entry.{Entry}
-use Rattle.loader.specs.declared.Batch.{Batch}
 use Rattle.pieces.specs.Ran.{entryAt, entriesIn}
-use Rattle.loader.specs.Batch.{pasted, Puts}
+use Rattle.batches.specs.declared.Batch.{Batch}
+use Rattle.loader.specs.Report.{pasted, Puts}
 
 pub puts-within : (b : Batch) (n : ℕ) → Puts b n → b .from + b .count ≤ n
-unfolding Puts
 puts-within b n h = h .0
 
 pub puts-worded : (b : Batch) (n : ℕ) → Puts b n → b .count * 5 ≤ length (b .words)
-unfolding Puts
 puts-worded b n h = h .1
 
-entries-length : (n : ℕ) (ws : List ℕ) → length (entriesIn n ws) ≡ n
+pub entries-count : (n : ℕ) (ws : List ℕ) → length (entriesIn n ws) ≡ n
 unfolding entriesIn
-entries-length zero ws = refl
-entries-length (suc n) ws = length-append (entriesIn n ws) (entryAt ws n ∷ []) ∙ ap (λ (k : ℕ). k + 1) (entries-length n ws) ∙ add-one n
+entries-count zero ws = refl
+entries-count (suc n) ws = length-append (entriesIn n ws) (entryAt ws n ∷ []) ∙ ap (λ (k : ℕ). k + 1) (entries-count n ws) ∙ add-one n
 
 pub none-pasted : (xs : List Entry) (at : ℕ) (ws : List ℕ) → pasted xs at (entriesIn 0 ws) ≡ xs
 unfolding entriesIn pasted
@@ -47,12 +46,12 @@ pasted-more xs at n es e l within =
 
 pub one-more : (xs : List Entry) (at i : ℕ) (ws : List ℕ) → at + i < length xs → set (pasted xs at (entriesIn i ws)) (at + i) (entryAt ws i) ≡ pasted xs at (entriesIn (i + 1) ws)
 unfolding entriesIn
-one-more xs at i ws within = pasted-more xs at i (entriesIn i ws) (entryAt ws i) (entries-length i ws) within ∙ ap (λ (k : ℕ). pasted xs at (entriesIn k ws)) (sym (add-one i))
+one-more xs at i ws within = pasted-more xs at i (entriesIn i ws) (entryAt ws i) (entries-count i ws) within ∙ ap (λ (k : ℕ). pasted xs at (entriesIn k ws)) (sym (add-one i))
 
 pub pasted-as-long : (xs : List Entry) (at i : ℕ) (ws : List ℕ) → at + i ≤ length xs → length (pasted xs at (entriesIn i ws)) ≡ length xs
 unfolding pasted
 pasted-as-long xs at i ws within =
-    let l : length (entriesIn i ws) ≡ i = entries-length i ws in
+    let l : length (entriesIn i ws) ≡ i = entries-count i ws in
     length-append (take at xs ++ entriesIn i ws) (drop (at + length (entriesIn i ws)) xs)
     ∙ ap (λ (k : ℕ). k + length (drop (at + length (entriesIn i ws)) xs))
     (length-append (take at xs) (entriesIn i ws) ∙ ap (λ (k : ℕ). k + length (entriesIn i ws)) (length-take-le at xs (omega (arith, within))))

@@ -16,12 +16,14 @@ use Rattle.text.specs.Byte.{Bytes}
 use Rattle.cell.specs.Layout.{Words}
 use Rattle.plain.specs.declared.Entry.{Entry}
 use Rattle.pieces.specs.Ran.{perEntry, entryAt, entriesIn}
-use Rattle.loader.specs.declared.State.{State}
-use Rattle.loader.specs.declared.Fed.{Fed}
-use Rattle.loader.specs.declared.Batch.{Batch}
-use Rattle.loader.specs.Batch.{Starts, Goes, Next, Ends, Puts, pasted, Small, fedBy}
+use Rattle.state.specs.declared.State.{State}
+use Rattle.batches.specs.declared.Fed.{Fed}
+use Rattle.batches.specs.declared.Batch.{Batch}
+use Rattle.batches.specs.Batch.{Starts, Goes, Next, Ends, Small, fedBy}
+use Rattle.loader.specs.Report.{Puts, pasted}
 use Rattle.loader.specs.Words.{placesIn, reportIn, wordsPasted, FeedWordsKeep, FinishWordsKeep}
-use Rattle.loader.proofs.Batching.{entries-count, Inv, begins, goes, puts, steps, less, small, stops, end-puts, end-small, ends}
+use Rattle.loader.proofs.Pasting.{entries-count}
+use Rattle.loader.proofs.Batching.{Inv, begins, goes, puts, steps, less, small, stops, end-puts, end-small, ends}
 
 -- ---- the copy
 

@@ -1,4 +1,4 @@
--- What the calls promise: the view of a state, the batches that a call works in, and the promise itself.
-pub mod View
-pub mod Batch
+-- What the calls promise, with a report of entries and with one of words.
+pub mod Keeps
+pub mod Report
 pub mod Words

@@ -10,10 +10,10 @@ use Rattle.cell.specs.Layout.{Words}
 use Rattle.plain.specs.declared.Entry.{Entry}
 use Rattle.plain.specs.Call.{Asked, feed, finish}
 use Rattle.pieces.specs.Ran.{perEntry, entriesIn}
-use Rattle.loader.specs.declared.State.{State}
-use Rattle.loader.specs.declared.Fed.{Fed}
-use Rattle.loader.specs.declared.Batch.{Batch}
-use Rattle.loader.specs.View.{Keeps}
+use Rattle.state.specs.declared.State.{State}
+use Rattle.batches.specs.declared.Fed.{Fed}
+use Rattle.batches.specs.declared.Batch.{Batch}
+use Rattle.loader.specs.Keeps.{Keeps}
 
 -- how many entries the words have room for, and the entries that they are
 abbrev pub placesIn : Words → ℕ

@@ -1,16 +1,16 @@
 // The calls with a report of words, five an entry, for programs and for callers in other languages. They do what feed and finish do.
 ghost use mathlib.Core.Path.{_≡_};
-ghost use Rattle.loader.specs.Batch.{Puts};
+ghost use Rattle.loader.specs.Report.{Puts};
 ghost use Rattle.loader.specs.Words.{placesIn, wordsPasted, FeedWordsKeep, FinishWordsKeep};
-use crate::Batch;
-use crate::Fed;
-use crate::State;
-use crate::answer;
-use crate::going;
-use crate::last_batch;
-use crate::next_batch;
-use crate::start;
+use batches::Batch;
+use batches::Fed;
+use batches::answer;
+use batches::going;
+use batches::last_batch;
+use batches::next_batch;
+use batches::start;
 use pieces::run::PER_ENTRY;
+use state::State;
 
 // Puts the words of a batch behind those of the batches before it.
 fn put_words(report: &mut [u32], b: Batch)

@@ -7,15 +7,15 @@
 // error, and nothing is loaded. The table has 64 cells, cleared.
 ghost use mathlib.Core.Path.{_≡_};
 ghost use lib.ListN.{length};
+use batches::Fed;
 use cell::Cell;
 use cells::refusal::DONE;
-use loader::Fed;
-use loader::fresh;
 use loader::words::feed_words;
 use loader::words::finish_words;
 use print::entries;
 use print::refused;
 use print::text;
+use state::fresh;
 
 mod print;
 
@@ -29,7 +29,7 @@ const PIECE_SIZE: usize = 262_144;
 const REPORT_WORDS: usize = 5 * (2 + PIECE_SIZE / 2);
 
 // No more pieces than this are taken before a call is refused 5.
-const MOST_PIECES: usize = 1 + loader::BYTE_LIMIT / PIECE_SIZE;
+const MOST_PIECES: usize = 1 + state::BYTE_LIMIT / PIECE_SIZE;
 
 const REGISTRY_SIZE: usize = 262_144;
 

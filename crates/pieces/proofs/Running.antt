@@ -1,27 +1,26 @@
 -- What some bytes do, and then others behind them, is what all of them do.
 -- Assumes nothing.
 use mathlib.Core.Path.{_≡_, refl, sym, ap, _∙_}
-use mathlib.Core.List.{List, [], _∷_, _++_}
-use Prim.Native.Nat.{ℕ, suc, _+_, _≤_}
+use mathlib.Core.List.{List, [], _++_}
+use Prim.Native.Nat.{ℕ, _+_, _≤_}
 use native.Mathlib.Omega.{arith}
 use lib.ListN.{take, length-take}
 use lib.Seq.{take-take, take-all}
 use Rattle.text.specs.Byte.{Bytes}
-use Rattle.lines.specs.Line.{LF, NoLF, endedLine}
+use Rattle.lines.specs.Line.{keptLimit}
 use Rattle.cell.specs.Layout.{Words}
 use Rattle.plain.specs.declared.Entry.{Entry}
 use Rattle.plain.specs.Rows.{Rules, rulesOf}
 use Rattle.plain.specs.Table.{loadAll}
-use Rattle.plain.specs.Loader.{OpenUnit, Scan, scan, stepLine, scanTo, scanEvents, entriesOf, loadsOf}
-use Rattle.plain.specs.Promise.{keptLimit, cutScan}
+use Rattle.plain.specs.Loader.{Scan, scan, scanTo, scanEvents, entriesOf, loadsOf}
+use Rattle.plain.specs.Promise.{cutScan}
 use Rattle.plain.proofs.Lawful.{Lawful}
 use Rattle.plain.proofs.Rules.{lawful}
 use Rattle.plain.proofs.Kept.{AlikeScan, scan-alike, events-alike}
-use Rattle.plain.proofs.LineScan.{line-scan-to, line-scan-events}
 use Rattle.plain.proofs.Pieces.{scanTo-append, scanEvents-append, entries-append, loads-append, loadAll-append}
 use Rattle.units.specs.declared.Unit.{Unit as KeptUnit}
 use Rattle.units.specs.Answer.{unitOf}
-use Rattle.pieces.specs.Ran.{between, scanOf, Ran}
+use Rattle.pieces.specs.Ran.{scanOf, Ran}
 
 module _ (R : Rules) (L : Lawful R) where
   cut-same : (s : Scan) → AlikeScan R L (cutScan s) s
@@ -71,14 +70,3 @@ ran-none R kept held lines unit id sender words t few =
       reaches = ap (λ k. scan k lines (unitOf unit id sender words)) (sym (take-all keptLimit (take held kept) (omega (arith, length-take held kept))));
       tells = record { entered = refl; loads = refl };
     }
-
--- a line more, of which nothing is said
-module _ (R : Rules) (from : Scan) (piece : Bytes) (at e end : ℕ) (line : Bytes) (part : between at end piece ≡ between at e piece ++ (line ++ (LF ∷ [])))
-    (clean : NoLF line) (n : ℕ) (u v : OpenUnit) (to : scanTo R from (between at e piece) ≡ scan [] n u)
-    (step : stepLine R (suc n) (endedLine line) u ≡ record { unit = v; events = [] }) where
-  pub more-to : scanTo R from (between at end piece) ≡ scan [] (suc n) v
-  more-to = rw (part, scanTo-append R from (between at e piece) (line ++ (LF ∷ [])), to) (line-scan-to R n u [] line clean ∙ rw step)
-
-  pub more-quiet : scanEvents R from (between at e piece) ≡ [] → scanEvents R from (between at end piece) ≡ []
-  more-quiet quiet =
-      rw (part, scanEvents-append R from (between at e piece) (line ++ (LF ∷ [])), quiet, to) (line-scan-events R n u [] line clean ∙ rw step)

@@ -1,4 +1,4 @@
-// Lines of a piece, one after the other, with the entries of their verdicts put as words.
+// Lines of a piece, one run and one line after the other, with the entries of their verdicts put as words.
 ghost use mathlib.Core.Path.{_≡_};
 ghost use mathlib.Core.List.{_++_};
 ghost use mathlib.Core.Bool.{_&&_};
@@ -7,11 +7,13 @@ ghost use lib.Dec.{leb, ltb};
 ghost use lib.ListN.{length};
 ghost use Rattle.records.specs.Answer.{Indexed};
 ghost use Rattle.units.specs.Answer.{told, HasRoom};
-ghost use Rattle.pieces.specs.Ran.{scanOf, Holds, perEntry, entriesIn, batchSize, batchWords, Runs};
+ghost use Rattle.pieces.specs.Ran.{scanOf, Holds, entriesIn, batchSize, batchWords, mostSaid, Runs};
 use crate::line::next_line;
 use records::Known;
+use runs::run_over;
 use units::Said;
 use units::Unit;
+use units::judged;
 
 pub const PER_ENTRY: usize = 5;
 
@@ -48,12 +50,15 @@ pub fn put(out: &mut [u32], count: usize, said: Said) -> usize
     }
 }
 
-// Whether there are bytes to read, and room for the two verdicts of a line.
+// The most verdicts that fall between two looks at the room: one behind a run of rows, two at a line.
+const MOST: usize = 3;
+
+// Whether there are bytes to read, and room for the verdicts that may fall.
 fn goes_on(at: usize, len: usize, count: usize) -> bool
     requires { ⌜ count ≤ batchSize ⌝ }
-    ensures { λ r. ⌜ r ≡ (ltb at len && leb (count + 2) batchSize) ⌝ }
+    ensures { λ r. ⌜ r ≡ (ltb at len && leb (count + mostSaid) batchSize) ⌝ }
 {
-    (at < len) & (count + 2 <= BATCH_SIZE)
+    (at < len) & (count + MOST <= BATCH_SIZE)
 }
 
 // A record that waits leaves its meter as the one to try first: files are mostly in order of their meters, so that the next record has it too.
@@ -99,12 +104,29 @@ pub fn read_lines(
     let mut e = at;
     let mut count: usize = 0;
     while goes_on(e, piece.len(), count) {
+        let q = run_over(u, n, h, piece, e, sender, words);
+        let passed = q.unit;
+        let s = judged(
+            passed,
+            q.all,
+            q.lines,
+            registry,
+            meters,
+            owners,
+            k,
+            id,
+            sender,
+        );
+        let said = s.said;
+        let next = s.unit;
+        count = put(out, count, said);
+        k = hinted(k, next);
         let m = next_line(
-            u,
-            n,
+            next,
+            q.lines,
             h,
             piece,
-            e,
+            q.at,
             registry,
             meters,
             owners,
@@ -117,11 +139,9 @@ pub fn read_lines(
         );
         let first = m.first;
         let second = m.second;
-        let next = m.unit;
         count = put(out, count, first);
         count = put(out, count, second);
-        k = hinted(k, next);
-        u = next;
+        u = m.unit;
         n = m.lines;
         h = m.held;
         e = m.at;

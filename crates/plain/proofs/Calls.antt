@@ -9,13 +9,14 @@ use lib.Dec.{ltb}
 use lib.ListN.{length, take, drop, length-take, length-map}
 use lib.Seq.{take-take, take-at}
 use borrow.Author.Tests.{ltb-false, le-ltb}
+use Rattle.lines.specs.Line.{keptLimit}
 use Rattle.lines.specs.Verdict.{long}
 use Rattle.cell.specs.Layout.{Words, width}
 use Rattle.cells.specs.Refusal.{done, badState, badRegistry, shortTable, shortReport, tooManyBytes}
 use Rattle.plain.specs.Call.{byteLimit, roomFor, Asked, feed, finish, Call, pieceOf, Plain, fresh, Done, answerOf, tableAfter, refusedBy, refusedAt, doneCall, byNumber, plainCall, plainAnswers, plainTable}
 use Rattle.plain.specs.Claim.{callsOf, answersOf, lastTable}
 use Rattle.plain.specs.Loader.{OpenUnit, noUnit, takesRows, waits, skips, Scan, scan, entriesOf, loadsOf, scanTo, scanEvents}
-use Rattle.plain.specs.Promise.{keptLimit, cutTo, detailsIn, View, viewFrom, overfull, Coded, Made, callOf, entriesRead, madeAnswer, codeNumber, codeCall, Chain}
+use Rattle.plain.specs.Promise.{cutTo, detailsIn, View, viewFrom, overfull, Coded, Made, callOf, entriesRead, madeAnswer, codeNumber, codeCall, Chain}
 use Rattle.plain.specs.Rows.{Rules, maxDetails}
 use Rattle.plain.specs.Table.{loadAll}
 use Rattle.plain.proofs.Good.{GoodEvents, GoodUnit, scan-good, finish-good}

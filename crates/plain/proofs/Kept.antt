@@ -13,11 +13,10 @@ use lib.Seq.{take-take, take-all, take-append-le}
 use borrow.Author.Tests.{lt-ltb, leb-true, leb-false}
 use Rattle.text.specs.Byte.{Bytes, startsWith}
 use Rattle.lines.proofs.Lines.{ended-long, last-long}
-use Rattle.lines.specs.Line.{LF, Line, endedLine, lastLine, openerBytes, detailBytes, dropCR, kindOf, lineLimit, isLong}
+use Rattle.lines.specs.Line.{LF, Line, endedLine, lastLine, openerBytes, detailBytes, dropCR, kindOf, lineLimit, isLong, keptLimit}
 use Rattle.lines.specs.declared.line.Kind.{Kind}
 use Rattle.lines.specs.declared.line.Kind.the-variants.{Empty, Opener, Detail, Other}
 use Rattle.plain.specs.Loader.{OpenUnit, noUnit, takesRows, waits, skips, Scan, stepKind, stepLine, byteTo, byteEvents, scanTo, scanEvents, endAt, endEvents}
-use Rattle.plain.specs.Promise.{keptLimit}
 use Rattle.plain.specs.Rows.{Rules}
 use Rattle.plain.proofs.Lawful.{Lawful}
 

@@ -8,7 +8,7 @@ use Prim.Native.Nat.{ℕ, zero, suc, _+_}
 use lib.Dec.{ltb}
 use lib.ListN.{length, take, drop}
 use Rattle.text.specs.Byte.{Bytes}
-use Rattle.lines.specs.Line.{lineLimit}
+use Rattle.lines.specs.Line.{keptLimit}
 use Rattle.cell.specs.Layout.{Words}
 use Rattle.cells.specs.Refusal.{badState}
 use Rattle.plain.specs.declared.Entry.{Entry}
@@ -18,9 +18,6 @@ use Rattle.plain.specs.Loader.{OpenUnit, noUnit, takesRows, waits, skips
 use Rattle.plain.specs.Call.{byteLimit, Asked, Call, Answer, Plain, Done, refusedBy, doneCall}
 
 -- The real calls keep at most the first 201 bytes of a line: these tell its kind, and that it is long.
-abbrev pub keptLimit : ℕ
-keptLimit = lineLimit + 1
-
 abbrev pub cutScan : Scan → Scan
 cutScan s = scan (take keptLimit (s .kept)) (s .lines) (s .unit)
 

@@ -31,14 +31,9 @@ use details::detail::Interval;
 use details::detail::PER_ROW;
 use details::detail::read_detail;
 use headers::four::Four;
-use headers::four::read_four;
 use headers::one::Channel;
 use headers::one::One;
-use headers::one::read_one;
 use headers::thirty::Thirty;
-use headers::thirty::read_thirty;
-use headers::three::read_three;
-use headers::two::read_two;
 use lines::row::Checked;
 use lines::row::Place;
 use lines::verdict::WRONG_CODE;
@@ -46,6 +41,11 @@ use padded::padding::put_padded;
 use registry::entry::Window;
 use text::fields::behind;
 use text::fields::front;
+use usual::four::read_four;
+use usual::one::read_one;
+use usual::thirty::read_thirty;
+use usual::three::read_three;
+use usual::two::read_two;
 
 // Rows two, three, four and thirty.
 pub const HEADER_ROWS: u32 = 4;
@@ -210,7 +210,7 @@ pub fn row_header(
 }
 
 // All rows are in: the registry checks.
-fn check(
+pub fn check(
     p: Progress,
     registry: &[u8],
     meters: &[usize],

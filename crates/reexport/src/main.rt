@@ -9,14 +9,14 @@ use cell::put_interval;
 use cell::put_stamp;
 use details::detail::Interval;
 use headers::time::Stamp;
-use loader::State;
-use loader::fresh;
 use loader::words::feed_words;
 use loader::words::finish_words;
 use show::cell_written;
 use show::entries;
 use show::refusal;
 use show::text;
+use state::State;
+use state::fresh;
 use writer::write;
 
 mod show;

@@ -3,14 +3,12 @@ ghost use Rattle.rowtext.specs.Text.{row, timeText, stampText, channelTe
 ghost use Rattle.rowtext.specs.Put.{Room, Put};
 use crate::digits::put_number;
 use crate::put::put;
+use headers::time::DAY_STOP;
 use headers::time::Stamp;
 
 const DATE_SIZE: usize = 8;
 
 const CLOCK_SIZE: usize = 6;
-
-// 23:59:00
-const DAY_STOP: u32 = 235900;
 
 fn put_time(out: &mut [u8], at: usize, date: u32, clock: u32) -> usize
     requires { ⌜ Room (now out) at (timeText date clock) ⌝ }

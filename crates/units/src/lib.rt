@@ -1,19 +1,26 @@
 // The unit that is open, a record or a stray run, and what one line of the file does to it.
 //
-// A unit goes by value; of a record it keeps a few numbers, while ESI ID, Sender and the words of its cell are lent. For whoever changes it:
-// the rules are `stepKind` of plain/specs/Loader.antt, and `step` here goes by the same cases.
+// A unit goes by value; of a record it keeps a few numbers, while ESI ID, Sender and the words of its cell are lent. A line does two things, in this
+// order: it may end the unit (`ended_by`), which is then closed, and loaded if it waited; and it is read (`step`). Only `load_waiting` writes the
+// table, so a read enters it at two places: here in `read_line`, and at the end of a file.
+//
+// For whoever changes it: the rules are `stepKind` of plain/specs/Loader.antt, and `step` here goes by the same cases; that a line's two parts are all that
+// it does is `step-parts` of proofs/Kept.antt.
 ghost use mathlib.Core.Path.{_≡_};
-ghost use Prim.Native.Nat.{_≤_};
+ghost use Prim.Native.Nat.{ℕ, suc, _≤_};
 ghost use lib.ListN.{length};
 ghost use Rattle.text.specs.Byte.{Bytes};
+ghost use Rattle.text.specs.Identifier.{esiIdSize};
 ghost use Rattle.lines.specs.Answer.{lineOf};
-ghost use Rattle.lines.specs.declared.line.Kind.the-variants.{Opener};
+ghost use Rattle.lines.specs.declared.line.Kind.the-variants.{Other};
+ghost use Rattle.registry.specs.Entry.{ownerSize};
 ghost use Rattle.cell.specs.Layout.{Words, width};
-ghost use Rattle.plain.specs.Rows.{maxDetails, rulesOf};
-ghost use Rattle.plain.specs.Loader.{close as closes, settle as settles, loading as loads, stepKind, stepLine};
+ghost use Rattle.plain.specs.Rows.{maxDetails, firstRow, rulesOf};
+ghost use Rattle.plain.specs.Table.{loadAll};
+ghost use Rattle.plain.specs.Loader.{close, settle as settles, entriesOf, loadsOf, stepLine};
 ghost use Rattle.plain.specs.Promise.{detailsIn};
-ghost use Rattle.records.specs.Answer.{rowSays, recordOf, Sized, Indexed};
-ghost use Rattle.units.specs.Answer.{unitOf, told, toldBy, Tells, Settles, Does, strayBehind, surplusAt, kindIf, HasRoom, Counted, loadAmong};
+ghost use Rattle.records.specs.Answer.{rowSays, Sized, Indexed};
+ghost use Rattle.units.specs.Answer.{unitOf, told, toldBy, ended, readBy, judgedIf, Reads, Does, strayFrom, surplusAt, quietly, kindIf, HasRoom, Counted};
 use cell::load::load;
 use cells::cell_number;
 use cells::channel_number;
@@ -28,6 +35,7 @@ use records::Known;
 use records::Progress;
 use records::Ready;
 use records::RowRead;
+use records::check;
 use records::row_next;
 use records::row_one;
 
@@ -45,48 +53,55 @@ pub enum Said {
     Verdict(Entry),
 }
 
-// What a line leaves: the unit, and the verdicts that fell, in order.
+// What a line leaves as it is read: the unit, and the verdict that fell, if one did.
 pub struct Stepped {
+    pub unit: Unit,
+    pub said: Said,
+}
+
+// What a line leaves in all: the unit, and the verdicts of the unit that it ended and of its own, in this order.
+pub struct LineRead {
     pub unit: Unit,
     pub first: Said,
     pub second: Said,
 }
 
-// Loads the read of a record that waits. A state that comes from no calls may name a cell that the registry has not: nothing is loaded then.
-fn load_read(r: Ready, known: Known, words: &[u32], table: &mut [u32])
-    requires { ⌜ HasRoom known (now table) × (length (now words) ≡ width) ⌝ }
-    ensures { λ _. ⌜ now (table .exit) ≡ loadAmong (known .count) (known .window .days) (now (table .entry)) (recordOf r (now (words .entry)) .load) ⌝ }
+// ---- THE UNIT ENDS
+
+// The unit that a line of a kind ends before it is read: an opener ends any, a line that is neither empty nor a detail line one that waits.
+fn ended_by(kind: Kind, unit: Unit) -> Unit
+    ensures { λ r. ⌜ ((id sender : Bytes) (words : Words) → unitOf r id sender words ≡ ended kind (unitOf unit id sender words)) ⌝ }
 {
-    let meter = r.meter as usize;
-    let day = r.offset as usize;
-    let channel = r.channel;
-    let c = channel_number(channel);
-    let days = known.window.days as usize;
-    if meter < known.count {
-        if day < days {
-            let number = cell_number(known.count, days, meter, c, day);
-            load(table, number, words);
-        }
+    match kind {
+        Kind::Empty => Unit::None,
+        Kind::Opener => unit,
+        Kind::Detail => Unit::None,
+        Kind::Other => waiting(unit),
     }
 }
 
-// Verdict 0 of a record whose last row is at line `last`.
-fn loading(first: u32, last: u32, r: Ready) -> Entry
-    ensures { λ e. ⌜ ((words : Words) → e ≡ loads first last (recordOf r words) .entry) ⌝ }
+// The unit, if it waits.
+fn waiting(unit: Unit) -> Unit
+    ensures { λ r. ⌜ ((id sender : Bytes) (words : Words) → unitOf r id sender words ≡ ended Other (unitOf unit id sender words)) ⌝ }
 {
-    Entry {
-        first,
-        verdict: LOADED,
-        at: last,
-        meter: r.meter as u32 + 1,
-        day: r.day,
+    match unit {
+        Unit::None => Unit::None,
+        Unit::Takes(_, _) => Unit::None,
+        Unit::Waits(_, _, _) => unit,
+        Unit::Skips => Unit::None,
     }
 }
 
-// At an opener, line n, or at finish, n then being one past the lines: a unit that takes rows gets 12, one that waits loads.
-pub fn close(unit: Unit, n: u32, known: Known, words: &[u32], table: &mut [u32]) -> Said
-    requires { ⌜ HasRoom known (now table) × (length (now words) ≡ width) ⌝ }
-    ensures { λ r. ⌜ ((reg id sender : Bytes) → Counted reg known → Tells (rulesOf reg) (closes n (unitOf unit id sender (now (words .entry)))) (told r) (now (table .entry)) (now (table .exit))) ⌝ }
+// The report counts meters from 1.
+fn meter_number(r: Ready) -> u32
+    ensures { λ n. ⌜ n ≡ suc (r .meter) ⌝ }
+{
+    r.meter as u32 + 1
+}
+
+// A unit ends at an opener, line n, or at finish, n then being one past the lines: one that takes rows gets 12, one that waits 0.
+pub fn closing(unit: Unit, n: u32) -> Said
+    ensures { λ r. ⌜ ((id sender : Bytes) (words : Words) → told r ≡ entriesOf (close n (unitOf unit id sender words))) ⌝ }
 {
     match unit {
         Unit::None => Said::Nothing,
@@ -97,23 +112,52 @@ pub fn close(unit: Unit, n: u32, known: Known, words: &[u32], table: &mut [u32])
             meter: 0,
             day: p.day,
         }),
-        Unit::Waits(first, last, r) => {
-            load_read(r, known, words, table);
-            Said::Verdict(loading(first, last, r))
-        }
+        Unit::Waits(first, last, r) => Said::Verdict(Entry {
+            first,
+            verdict: LOADED,
+            at: last,
+            meter: meter_number(r),
+            day: r.day,
+        }),
         Unit::Skips => Said::Nothing,
     }
 }
 
+// Loads the read of a unit that ends, if it waited. A state that comes from no calls may name a cell that the registry has not: nothing is loaded then.
+pub fn load_waiting(unit: Unit, known: Known, words: &[u32], table: &mut [u32])
+    requires { ⌜ HasRoom known (now table) × (length (now words) ≡ width) ⌝ }
+    ensures { λ _. ⌜ ((reg id sender : Bytes) (n : ℕ) → Counted reg known → now (table .exit) ≡ loadAll (rulesOf reg) (now (table .entry)) (loadsOf (close n (unitOf unit id sender (now (words .entry)))))) ⌝ }
+{
+    match unit {
+        Unit::None => {}
+        Unit::Takes(_, _) => {}
+        Unit::Skips => {}
+        Unit::Waits(_, _, r) => {
+            let meter = r.meter as usize;
+            let day = r.offset as usize;
+            let channel = r.channel;
+            let c = channel_number(channel);
+            let days = known.window.days as usize;
+            if meter < known.count {
+                if day < days {
+                    let number = cell_number(known.count, days, meter, c, day);
+                    load(table, number, words);
+                }
+            }
+        }
+    }
+}
+
+// ---- THE LINE IS READ
+
 // What a row at line n makes of its unit, which began at line `first`.
 pub fn settle(first: u32, n: u32, row: RowRead, day: u32) -> Stepped
-    ensures { λ r. ⌜ ((id sender : Bytes) (words : Words) → Settles r (settles first n (rowSays row day id sender words)) id sender words) ⌝ }
+    ensures { λ r. ⌜ ((id sender : Bytes) (words : Words) → Reads (settles first n (rowSays row day id sender words)) (unitOf (r .unit) id sender words) (told (r .said))) ⌝ }
 {
     match row {
         RowRead::Refused(verdict, meter) => Stepped {
             unit: Unit::Skips,
-            first: Said::Nothing,
-            second: Said::Verdict(Entry {
+            said: Said::Verdict(Entry {
                 first,
                 verdict,
                 at: n,
@@ -123,25 +167,22 @@ pub fn settle(first: u32, n: u32, row: RowRead, day: u32) -> Stepped
         },
         RowRead::GoesOn(p) => Stepped {
             unit: Unit::Takes(first, p),
-            first: Said::Nothing,
-            second: Said::Nothing,
+            said: Said::Nothing,
         },
         RowRead::Complete(r) => Stepped {
             unit: Unit::Waits(first, n, r),
-            first: Said::Nothing,
-            second: Said::Nothing,
+            said: Said::Nothing,
         },
     }
 }
 
-// A stray run begins at line n, behind what was said before.
-fn stray(before: Said, n: u32) -> Stepped
-    ensures { λ r. ⌜ r ≡ strayBehind before n ⌝ }
+// A stray run begins at line n.
+fn stray(n: u32) -> Stepped
+    ensures { λ r. ⌜ r ≡ strayFrom n ⌝ }
 {
     Stepped {
         unit: Unit::Skips,
-        first: before,
-        second: Said::Verdict(Entry {
+        said: Said::Verdict(Entry {
             first: n,
             verdict: STRAY,
             at: n,
@@ -157,42 +198,40 @@ fn surplus(first: u32, n: u32, r: Ready) -> Stepped
 {
     Stepped {
         unit: Unit::Skips,
-        first: Said::Nothing,
-        second: Said::Verdict(Entry {
+        said: Said::Verdict(Entry {
             first,
             verdict: SURPLUS,
             at: n,
-            meter: r.meter as u32 + 1,
+            meter: meter_number(r),
             day: r.day,
         }),
     }
 }
 
-// An opener ends the unit, and is row one of a new one.
+// A line of which nothing is said.
+fn quiet(unit: Unit) -> Stepped
+    ensures { λ r. ⌜ r ≡ quietly unit ⌝ }
+{
+    Stepped {
+        unit,
+        said: Said::Nothing,
+    }
+}
+
+// An opener is row one of a new unit.
 fn open(
-    unit: Unit,
     n: u32,
     line: &[u8],
     cr: bool,
-    known: Known,
     id: &mut [u8],
     sender: &mut [u8],
     words: &mut [u32],
-    table: &mut [u32],
 ) -> Stepped
-    requires { ⌜ Sized (now id) (now sender) (now words) × HasRoom known (now table) ⌝ }
-    ensures { λ r. ⌜ ((reg : Bytes) → Counted reg known → Does (rulesOf reg) (stepKind (rulesOf reg) Opener n (lineOf (now (line .entry)) cr) (unitOf unit (now (id .entry)) (now (sender .entry)) (now (words .entry)))) (unitOf (r .unit) (now (id .exit)) (now (sender .exit)) (now (words .exit))) (toldBy r) (now (table .entry)) (now (table .exit))) × Sized (now (id .exit)) (now (sender .exit)) (now (words .exit)) ⌝ }
+    requires { ⌜ Sized (now id) (now sender) (now words) ⌝ }
+    ensures { λ r. ⌜ Reads (settles n n (firstRow (lineOf (now (line .entry)) cr))) (unitOf (r .unit) (now (id .exit)) (now (sender .exit)) (now (words .exit))) (told (r .said)) × Sized (now (id .exit)) (now (sender .exit)) (now (words .exit)) ⌝ }
 {
-    let before = close(unit, n, known, words, table);
     let row = row_one(line, cr, id, sender, words);
-    let after = settle(n, n, row, 0);
-    let next = after.unit;
-    let second = after.second;
-    Stepped {
-        unit: next,
-        first: before,
-        second,
-    }
+    settle(n, n, row, 0)
 }
 
 // A line that is neither empty nor an opener: a detail line, or another.
@@ -209,13 +248,12 @@ fn go_on(
     id: &[u8],
     sender: &mut [u8],
     words: &mut [u32],
-    table: &mut [u32],
 ) -> Stepped
-    requires { ⌜ Indexed (now registry) (now meters) (now owners) known × Sized (now id) (now sender) (now words) × HasRoom known (now table) × (detailsIn (unitOf unit (now id) (now sender) (now words)) ≤ maxDetails) ⌝ }
-    ensures { λ r. ⌜ Does (rulesOf (now (registry .entry))) (stepKind (rulesOf (now (registry .entry))) (kindIf detail) n (lineOf (now (line .entry)) cr) (unitOf unit (now (id .entry)) (now (sender .entry)) (now (words .entry)))) (unitOf (r .unit) (now (id .entry)) (now (sender .exit)) (now (words .exit))) (toldBy r) (now (table .entry)) (now (table .exit)) × Sized (now (id .entry)) (now (sender .exit)) (now (words .exit)) ⌝ }
+    requires { ⌜ Indexed (now registry) (now meters) (now owners) known × Sized (now id) (now sender) (now words) × (detailsIn (unitOf unit (now id) (now sender) (now words)) ≤ maxDetails) ⌝ }
+    ensures { λ r. ⌜ Reads (readBy (rulesOf (now (registry .entry))) (kindIf detail) n (lineOf (now (line .entry)) cr) (unitOf unit (now (id .entry)) (now (sender .entry)) (now (words .entry)))) (unitOf (r .unit) (now (id .entry)) (now (sender .exit)) (now (words .exit))) (told (r .said)) × Sized (now (id .entry)) (now (sender .exit)) (now (words .exit)) ⌝ }
 {
     match unit {
-        Unit::None => stray(Said::Nothing, n),
+        Unit::None => stray(n),
         Unit::Takes(first, p) => {
             let row = row_next(
                 p,
@@ -231,24 +269,20 @@ fn go_on(
             );
             settle(first, n, row, p.day)
         }
-        Unit::Waits(first, last, r) => {
+        Unit::Waits(first, _, r) => {
             if detail {
                 return surplus(first, n, r);
             }
-            load_read(r, known, words, table);
-            stray(Said::Verdict(loading(first, last, r)), n)
+            stray(n)
         }
-        Unit::Skips => Stepped {
-            unit,
-            first: Said::Nothing,
-            second: Said::Nothing,
-        },
+        Unit::Skips => quiet(unit),
     }
 }
 
-// Line n of the file.
-pub fn step(
+// Line n of the file is read, once the unit that it ends has ended.
+fn step(
     unit: Unit,
+    kind: Kind,
     n: u32,
     line: &[u8],
     cr: bool,
@@ -259,18 +293,13 @@ pub fn step(
     id: &mut [u8],
     sender: &mut [u8],
     words: &mut [u32],
-    table: &mut [u32],
 ) -> Stepped
-    requires { ⌜ Indexed (now registry) (now meters) (now owners) known × Sized (now id) (now sender) (now words) × HasRoom known (now table) × (detailsIn (unitOf unit (now id) (now sender) (now words)) ≤ maxDetails) ⌝ }
-    ensures { λ r. ⌜ Does (rulesOf (now (registry .entry))) (stepLine (rulesOf (now (registry .entry))) n (lineOf (now (line .entry)) cr) (unitOf unit (now (id .entry)) (now (sender .entry)) (now (words .entry)))) (unitOf (r .unit) (now (id .exit)) (now (sender .exit)) (now (words .exit))) (toldBy r) (now (table .entry)) (now (table .exit)) × Sized (now (id .exit)) (now (sender .exit)) (now (words .exit)) ⌝ }
+    requires { ⌜ Indexed (now registry) (now meters) (now owners) known × Sized (now id) (now sender) (now words) × (detailsIn (unitOf unit (now id) (now sender) (now words)) ≤ maxDetails) ⌝ }
+    ensures { λ r. ⌜ Reads (readBy (rulesOf (now (registry .entry))) kind n (lineOf (now (line .entry)) cr) (unitOf unit (now (id .entry)) (now (sender .entry)) (now (words .entry)))) (unitOf (r .unit) (now (id .exit)) (now (sender .exit)) (now (words .exit))) (told (r .said)) × Sized (now (id .exit)) (now (sender .exit)) (now (words .exit)) ⌝ }
 {
-    match kind_of(line) {
-        Kind::Empty => Stepped {
-            unit,
-            first: Said::Nothing,
-            second: Said::Nothing,
-        },
-        Kind::Opener => open(unit, n, line, cr, known, id, sender, words, table),
+    match kind {
+        Kind::Empty => quiet(unit),
+        Kind::Opener => open(n, line, cr, id, sender, words),
         Kind::Detail => go_on(
             unit,
             n,
@@ -284,7 +313,6 @@ pub fn step(
             id,
             sender,
             words,
-            table,
         ),
         Kind::Other => go_on(
             unit,
@@ -299,7 +327,80 @@ pub fn step(
             id,
             sender,
             words,
-            table,
         ),
+    }
+}
+
+// All rows of a record are in, the last of them at line n, if `all` says so: the registry checks. What holds of any other unit is left.
+pub fn judged(
+    unit: Unit,
+    all: bool,
+    n: u32,
+    registry: &[u8],
+    meters: &[usize],
+    owners: &[usize],
+    known: Known,
+    id: &[u8],
+    sender: &[u8],
+) -> Stepped
+    requires { ⌜ Indexed (now registry) (now meters) (now owners) known × (length (now id) ≡ esiIdSize) × (length (now sender) ≡ ownerSize) ⌝ }
+    ensures { λ r. ⌜ ((words : Words) → Reads (judgedIf all (now (registry .entry)) n (unitOf unit (now (id .entry)) (now (sender .entry)) words)) (unitOf (r .unit) (now (id .entry)) (now (sender .entry)) words) (told (r .said))) ⌝ }
+{
+    if !all {
+        return quiet(unit);
+    }
+    match unit {
+        Unit::None => quiet(unit),
+        Unit::Takes(first, p) => {
+            let row = check(p, registry, meters, owners, known, id, sender);
+            settle(first, n, row, p.day)
+        }
+        Unit::Waits(_, _, _) => quiet(unit),
+        Unit::Skips => quiet(unit),
+    }
+}
+
+// Line n of the file: the unit that it ends, and then the line itself.
+pub fn read_line(
+    unit: Unit,
+    n: u32,
+    line: &[u8],
+    cr: bool,
+    registry: &[u8],
+    meters: &[usize],
+    owners: &[usize],
+    known: Known,
+    id: &mut [u8],
+    sender: &mut [u8],
+    words: &mut [u32],
+    table: &mut [u32],
+) -> LineRead
+    requires { ⌜ Indexed (now registry) (now meters) (now owners) known × Sized (now id) (now sender) (now words) × HasRoom known (now table) × (detailsIn (unitOf unit (now id) (now sender) (now words)) ≤ maxDetails) ⌝ }
+    ensures { λ r. ⌜ Does (rulesOf (now (registry .entry))) (stepLine (rulesOf (now (registry .entry))) n (lineOf (now (line .entry)) cr) (unitOf unit (now (id .entry)) (now (sender .entry)) (now (words .entry)))) (unitOf (r .unit) (now (id .exit)) (now (sender .exit)) (now (words .exit))) (toldBy r) (now (table .entry)) (now (table .exit)) × Sized (now (id .exit)) (now (sender .exit)) (now (words .exit)) ⌝ }
+{
+    let kind = kind_of(line);
+    let before = ended_by(kind, unit);
+    load_waiting(before, known, words, table);
+    let first = closing(before, n);
+    let s = step(
+        unit,
+        kind,
+        n,
+        line,
+        cr,
+        registry,
+        meters,
+        owners,
+        known,
+        id,
+        sender,
+        words,
+    );
+    let next = s.unit;
+    let second = s.said;
+    LineRead {
+        unit: next,
+        first,
+        second,
     }
 }

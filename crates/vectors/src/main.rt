@@ -3,16 +3,16 @@
 ghost use mathlib.Core.Path.{_≡_};
 ghost use Prim.Native.Nat.{_<_, _≤_};
 ghost use lib.ListN.{length};
+use batches::Fed;
 use cell::Cell;
 use cells::refusal::DONE;
-use loader::Fed;
-use loader::fresh;
 use loader::words::feed_words;
 use loader::words::finish_words;
 use print::cell_line;
 use print::entries;
 use print::heading;
 use print::refused;
+use state::fresh;
 use text::fields::behind;
 use text::fields::front;
 

@@ -6,6 +6,19 @@ use Rattle.kilnsorrel.proofs.Crossing.{call-wrong, call-refused, call-d
 use Rattle.kilnsorrel.proofs.kilnsorrel_finish.Statement.{statement}
 use Rattle.kilnsorrel.proofs.kilnsorrel_finish.Tie as tie
 
+-- the places behind the state that was read and behind the call, from where it was refused and from where its state was put
+abbrev state-read : tie.After-finish-words → tie.After-state-in
+state-read c = c .before .before .before
+
+abbrev refused : tie.Then2 → tie.After-finish-words
+refused c = c .before .before .before .before .before .before
+
+abbrev state-put : tie.After-slice-known6 → tie.After-put-state
+state-put c = c .before .before
+
+abbrev went : tie.After-put-state → tie.After-finish-words
+went c = c .before .before .before .before .before .before .before .before
+
 packed-requires : tie.Need-packed-requires
 packed-requires c κs = search needs
 
@@ -19,7 +32,7 @@ finish-words-requires : tie.Need-finish-words-requires
 finish-words-requires c κs = search needs
 
 packed-requires-2 : tie.Need-packed-requires-2
-packed-requires-2 c κs = count-small _ _ _ _ _ _ _ _ (c .before .before .before .before .before .before .finish-words .ensures)
+packed-requires-2 c κs = count-small _ _ _ _ _ _ _ _ (refused c .finish-words .ensures)
 
 same-length : tie.Need-same-length
 same-length c = search needs
@@ -31,13 +44,15 @@ same-length-3 : tie.Need-same-length-3
 same-length-3 c = search needs
 
 returns-2 : tie.Need-returns-2
-returns-2 c = call-refused _ _ _ _ _ _ _ _ _ _ (search needs) (c .before .before .before .before .before .before .before .before .before .before .state-in .ensures) (c .before .before .before .before .before .before .before .finish-words .ensures) (c .before .if2 .taken) (c .packed2 .ensures)
+returns-2 c =
+    let r = refused (c .before) in
+    call-refused _ _ _ _ _ _ _ _ _ _ (search needs) (state-read r .state-in .ensures) (r .finish-words .ensures) (c .before .if2 .taken) (c .packed2 .ensures)
 
 put-state-requires : tie.Need-put-state-requires
 put-state-requires c κs = search needs
 
 packed-requires-3 : tie.Need-packed-requires-3
-packed-requires-3 c κs = count-small _ _ _ _ _ _ _ _ (c .before .before .before .before .before .before .before .before .before .before .finish-words .ensures)
+packed-requires-3 c κs = count-small _ _ _ _ _ _ _ _ (went (state-put c) .finish-words .ensures)
 
 same-length-4 : tie.Need-same-length-4
 same-length-4 c = search needs
@@ -49,7 +64,11 @@ same-length-6 : tie.Need-same-length-6
 same-length-6 c = search needs
 
 returns-3 : tie.Need-returns-3
-returns-3 c = call-done _ _ _ _ _ _ _ _ _ _ (search needs) (c .before .before .before .before .before .before .before .before .before .before .before .before .before .before .state-in .ensures) (c .before .before .before .before .before .before .before .before .before .before .before .finish-words .ensures) _ (search needs) (search needs) (c .before .before .before .put-state .ensures) (c .packed3 .ensures)
+returns-3 c =
+    let p = state-put (c .before) in
+    let r = went p in
+    call-done _ _ _ _ _ _ _ _ _ _ (search needs) (state-read r .state-in .ensures) (r .finish-words .ensures) _ (search needs) (search needs)
+    (p .put-state .ensures) (c .packed3 .ensures)
 
 pub kilnsorrel-finish-spec : {M : Type 1} → statement M
 kilnsorrel-finish-spec =

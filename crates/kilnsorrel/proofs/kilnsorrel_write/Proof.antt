@@ -11,7 +11,7 @@ write-requires : tie.Need-write-requires
 write-requires c κs = search needs
 
 packed-requires : tie.Need-packed-requires
-packed-requires c κs = rw (c .before .before .write .ensures .0) (length-small (c .before .before .before .before .before .before .before .before .args .registry .now) (c .before .before .before .before .before .before .before .before .args .table .now) (c .before .before .before .before .before .before .before .before .args .meter) (c .before .before .before .before .before .before .before .before .args .channel) (c .before .before .before .before .before .before .before .before .args .day) (c .before .before .before .before .before .before .before .before .args .descriptor .now) (c .before .before .before .before .before .before .before .before .args .output .now))
+packed-requires c κs = rw (c .before .before .write .ensures .0) (length-small _ _ _ _ _ _ _)
 
 same-length : tie.Need-same-length
 same-length c = search needs

@@ -47,11 +47,11 @@ use denote.Triple.Table.{entered, cited}
 use denote.Triple.Walked.{says, Stays, stay-slice, stay-none, stay-none-slice, walkOf, goes-slice, goes-none, goes-none-slice, Walks, ends-at, walked, walk-meets}
 use denote.Exit.{yes}
 use Rattle.plain.specs.declared.Entry.{Entry}
-use Rattle.loader.specs.declared.State.{State}
-use Rattle.loader.specs.declared.Batch.{Batch}
-use Rattle.loader.specs.declared.Fed.{Fed}
-use Rattle.loader.specs.View.{FeedKeeps}
-use Rattle.loader.specs.Batch.{fedBy}
+use Rattle.state.specs.declared.State.{State}
+use Rattle.batches.specs.declared.Batch.{Batch}
+use Rattle.batches.specs.declared.Fed.{Fed}
+use Rattle.batches.specs.Batch.{fedBy}
+use Rattle.loader.specs.Keeps.{FeedKeeps}
 use Rattle.loader.proofs.Batching.{Inv, begins, goes, puts, steps, less, small, stops}
 use Rattle.loader.proofs.Bodies.{tail}
 use Rattle.loader.proofs.Tests.{bool-typed, is-true, is-false}
@@ -59,25 +59,25 @@ use Rattle.loader.proofs.LentAgain.{lent, Slice, lends-again, comes-bac
 use Rattle.loader.proofs.Passing.{Start, GoingOn, NextBatch, PutBatch, Answer, state-val, bytes-val, Bytes, to-start, asks-start, gives-start, to-going, asks-going, gives-going}
 use Rattle.loader.proofs.Passing.{to-next, asks-next, gives-next, to-put, asks-put, gives-put, to-answer, asks-answer, gives-answer}
 use Rattle.plain.proofs.Entry as T
-use Rattle.loader.proofs.State as S
-use Rattle.loader.proofs.State.Laws as S′
-use Rattle.loader.proofs.Batch as D
-use Rattle.loader.proofs.Fed as F
-use Rattle.loader.proofs.start.Symbol as start-def
-use Rattle.loader.proofs.start.Symbol.{name as #loader·start}
-use Rattle.loader.proofs.start.Met as start-thm
-use Rattle.loader.proofs.going.Symbol as going-def
-use Rattle.loader.proofs.going.Symbol.{name as #loader·going}
-use Rattle.loader.proofs.going.Met as going-thm
-use Rattle.loader.proofs.next_batch.Symbol as next-batch-def
-use Rattle.loader.proofs.next_batch.Symbol.{name as #loader·next-batch}
-use Rattle.loader.proofs.next_batch.Met as next-batch-thm
+use Rattle.state.proofs.State as S
+use Rattle.state.proofs.State.Laws as S′
+use Rattle.batches.proofs.Batch as D
+use Rattle.batches.proofs.Fed as F
+use Rattle.batches.proofs.start.Symbol as start-def
+use Rattle.batches.proofs.start.Symbol.{name as #batches·start}
+use Rattle.batches.proofs.start.Met as start-thm
+use Rattle.batches.proofs.going.Symbol as going-def
+use Rattle.batches.proofs.going.Symbol.{name as #batches·going}
+use Rattle.batches.proofs.going.Met as going-thm
+use Rattle.batches.proofs.next_batch.Symbol as next-batch-def
+use Rattle.batches.proofs.next_batch.Symbol.{name as #batches·next-batch}
+use Rattle.batches.proofs.next_batch.Met as next-batch-thm
 use Rattle.loader.proofs.put_batch.Symbol as put-batch-def
 use Rattle.loader.proofs.put_batch.Symbol.{name as #loader·put-batch}
 use Rattle.loader.proofs.put_batch.Met as put-batch-thm
-use Rattle.loader.proofs.answer.Symbol as answer-def
-use Rattle.loader.proofs.answer.Symbol.{name as #loader·answer}
-use Rattle.loader.proofs.answer.Met as answer-thm
+use Rattle.batches.proofs.answer.Symbol as answer-def
+use Rattle.batches.proofs.answer.Symbol.{name as #batches·answer}
+use Rattle.batches.proofs.answer.Met as answer-thm
 use Rattle.loader.proofs.feed.Key.{name as #loader·feed}
 use Rattle.loader.proofs.feed as f
 use Rattle.loader.proofs.feed.Statement as stated
@@ -129,7 +129,7 @@ abbrev more : Body
 more = tail (tail turn-1)
 
 abbrev rest : Body
-rest = seq (call #loader·answer (copy (place 6 []) ∷ []) (place 0 [])) return
+rest = seq (call #batches·answer (copy (place 6 []) ∷ []) (place 0 [])) return
 
 module _ {M : Type 1} (𝓤 : URA M) (H : Heap 𝓤) (A : Atoms 𝓤) (W : Given 𝓤 H A) (mem : Memory → SProp 𝓤) (run : Routine → Fun 𝓤)
     (κ₀ κ₁ κ₂ κ₃ : Lft) (q₀ q₁ q₂ q₃ : Share) (s₀ : State) (pc : RefT (List ℕ)) (rg : RefT (List ℕ)) (b₂ o₂ : ℕ) (γ₂ : GName) (t₀ : List ℕ) (b₃ o₃ : ℕ) (γ₃ : GName) (r₀ : List Entry)
@@ -221,10 +221,10 @@ module _ {M : Type 1} (𝓤 : URA M) (H : Heap 𝓤) (A : Atoms 𝓤) (W : Given
   Fewer-wf = InvImage·wf (λ (z : Turn). length bs - z .d .at) (Nat·lt-wfRel .wf)
 
   module _ (𝓣 : Tables 𝓤 H)
-      (known-going : Triple 𝓤 (𝓣 .C #loader·going) (GoingOn 𝓤 H A mem run))
-      (known-next : Triple 𝓤 (𝓣 .C #loader·next-batch) (NextBatch 𝓤 H A mem run))
+      (known-going : Triple 𝓤 (𝓣 .C #batches·going) (GoingOn 𝓤 H A mem run))
+      (known-next : Triple 𝓤 (𝓣 .C #batches·next-batch) (NextBatch 𝓤 H A mem run))
       (known-put : Triple 𝓤 (𝓣 .C #loader·put-batch) (PutBatch 𝓤 H A mem run))
-      (known-answer : Triple 𝓤 (𝓣 .C #loader·answer) (Answer 𝓤 H A mem run))
+      (known-answer : Triple 𝓤 (𝓣 .C #batches·answer) (Answer 𝓤 H A mem run))
       (l₀ l₁ l₂ l₃ l₄ l₅ l₆ l₇ l₈ l₉ l₁₀ l₁₁ l₁₂ l₁₃ l₁₄ : ℕ) where
     abbrev C : Calls 𝓤 H
     C = 𝓣 .C
@@ -331,11 +331,11 @@ module _ {M : Type 1} (𝓤 : URA M) (H : Heap 𝓤) (A : Atoms 𝓤) (W : Given
 
   -- the MIR up to the loop
   walk : (𝓣 : Tables 𝓤 H)
-      → Triple 𝓤 (𝓣 .C #loader·start) (Start 𝓤 H A mem run)
-      → Triple 𝓤 (𝓣 .C #loader·going) (GoingOn 𝓤 H A mem run)
-      → Triple 𝓤 (𝓣 .C #loader·next-batch) (NextBatch 𝓤 H A mem run)
+      → Triple 𝓤 (𝓣 .C #batches·start) (Start 𝓤 H A mem run)
+      → Triple 𝓤 (𝓣 .C #batches·going) (GoingOn 𝓤 H A mem run)
+      → Triple 𝓤 (𝓣 .C #batches·next-batch) (NextBatch 𝓤 H A mem run)
       → Triple 𝓤 (𝓣 .C #loader·put-batch) (PutBatch 𝓤 H A mem run)
-      → Triple 𝓤 (𝓣 .C #loader·answer) (Answer 𝓤 H A mem run)
+      → Triple 𝓤 (𝓣 .C #batches·answer) (Answer 𝓤 H A mem run)
       → ent 𝓤 (onEntry 𝓤 H A f.signature (κ₀, (κ₁, (κ₂, (κ₃, tt)))) (q₀, (q₁, (q₂, (q₃, tt)))) a vals) (WpFn 𝓤 H (𝓣 .C) (𝓣 .Λ) code.function (us ∷ sp ∷ sg ∷ st ∷ sr ∷ []) Post)
   walk 𝓣 known-start known-going known-next known-put known-answer =
       let fm : FmC 𝓤 H (W .laws) (𝓣 .C) = fmOf 𝓤 H (W .laws) 𝓣 in
@@ -372,11 +372,11 @@ module _ {M : Type 1} (𝓤 : URA M) (H : Heap 𝓤) (A : Atoms 𝓤) (W : Given
       (record { d = d; u = v; is = is; t = t₀; r = r₀; t-long = refl; r-long = refl; inv = begins bs reg t₀ r₀ s₀ d e }))))))))))))))))))
 
 module _ {M : Type 1} (𝓤 : URA M) (H : Heap 𝓤) (A : Atoms 𝓤) (W : Given 𝓤 H A) (mem : Memory → SProp 𝓤) (run : Routine → Fun 𝓤) (𝓣 : Tables 𝓤 H)
-    (known-start : Triple 𝓤 (𝓣 .C #loader·start) (Start 𝓤 H A mem run))
-    (known-going : Triple 𝓤 (𝓣 .C #loader·going) (GoingOn 𝓤 H A mem run))
-    (known-next : Triple 𝓤 (𝓣 .C #loader·next-batch) (NextBatch 𝓤 H A mem run))
+    (known-start : Triple 𝓤 (𝓣 .C #batches·start) (Start 𝓤 H A mem run))
+    (known-going : Triple 𝓤 (𝓣 .C #batches·going) (GoingOn 𝓤 H A mem run))
+    (known-next : Triple 𝓤 (𝓣 .C #batches·next-batch) (NextBatch 𝓤 H A mem run))
     (known-put : Triple 𝓤 (𝓣 .C #loader·put-batch) (PutBatch 𝓤 H A mem run))
-    (known-answer : Triple 𝓤 (𝓣 .C #loader·answer) (Answer 𝓤 H A mem run)) where
+    (known-answer : Triple 𝓤 (𝓣 .C #batches·answer) (Answer 𝓤 H A mem run)) where
   feed-walks : Walks 𝓤 H A f.ended stayed (WpFn 𝓤 H (𝓣 .C) (𝓣 .Λ) code.function) (f.clauses 𝓤 H A mem run)
   feed-walks = walked 𝓤 H A f.ended stayed (f.clauses 𝓤 H A mem run) (WpFn 𝓤 H (𝓣 .C) (𝓣 .Λ) code.function)
       (λ κs. (LL.vals S.the-type S′.the-laws, (slice-vals, (slice-vals, (slice-vals, (slice-vals, tt))))))
@@ -416,8 +416,8 @@ feed-spec 𝓤 H 𝓜 𝓖 𝓡 =
     entered 𝓤 H (tripleOf 𝓤 H (𝓖 .A) f.signature (f.spec 𝓤 H (𝓖 .A) (𝓜 .mem) (𝓡 .run)))
     (tables 𝓤 H 𝓜 𝓡 code.env .C) (tables 𝓤 H 𝓜 𝓡 code.env .Λ) #loader·feed code.function (code.unfolded 𝓤 H 𝓜 𝓡)
     (feed-meets 𝓤 H (𝓖 .A) (givenOf 𝓤 H 𝓜 𝓖) (𝓜 .mem) (𝓡 .run) (tablesOf 𝓤 H 𝓜 (tables 𝓤 H 𝓜 𝓡 code.env))
-    (cited 𝓤 H (Start 𝓤 H (𝓖 .A) (𝓜 .mem) (𝓡 .run)) 𝓜 𝓡 code.env #loader·start start-def.routine code.calls-loader·start (start-thm.met 𝓤 H 𝓜 𝓖 𝓡))
-    (cited 𝓤 H (GoingOn 𝓤 H (𝓖 .A) (𝓜 .mem) (𝓡 .run)) 𝓜 𝓡 code.env #loader·going going-def.routine code.calls-loader·going (going-thm.met 𝓤 H 𝓜 𝓖 𝓡))
-    (cited 𝓤 H (NextBatch 𝓤 H (𝓖 .A) (𝓜 .mem) (𝓡 .run)) 𝓜 𝓡 code.env #loader·next-batch next-batch-def.routine code.calls-loader·next-batch (next-batch-thm.met 𝓤 H 𝓜 𝓖 𝓡))
+    (cited 𝓤 H (Start 𝓤 H (𝓖 .A) (𝓜 .mem) (𝓡 .run)) 𝓜 𝓡 code.env #batches·start start-def.routine code.calls-batches·start (start-thm.met 𝓤 H 𝓜 𝓖 𝓡))
+    (cited 𝓤 H (GoingOn 𝓤 H (𝓖 .A) (𝓜 .mem) (𝓡 .run)) 𝓜 𝓡 code.env #batches·going going-def.routine code.calls-batches·going (going-thm.met 𝓤 H 𝓜 𝓖 𝓡))
+    (cited 𝓤 H (NextBatch 𝓤 H (𝓖 .A) (𝓜 .mem) (𝓡 .run)) 𝓜 𝓡 code.env #batches·next-batch next-batch-def.routine code.calls-batches·next-batch (next-batch-thm.met 𝓤 H 𝓜 𝓖 𝓡))
     (cited 𝓤 H (PutBatch 𝓤 H (𝓖 .A) (𝓜 .mem) (𝓡 .run)) 𝓜 𝓡 code.env #loader·put-batch put-batch-def.routine code.calls-loader·put-batch (put-batch-thm.met 𝓤 H 𝓜 𝓖 𝓡))
-    (cited 𝓤 H (Answer 𝓤 H (𝓖 .A) (𝓜 .mem) (𝓡 .run)) 𝓜 𝓡 code.env #loader·answer answer-def.routine code.calls-loader·answer (answer-thm.met 𝓤 H 𝓜 𝓖 𝓡)))
+    (cited 𝓤 H (Answer 𝓤 H (𝓖 .A) (𝓜 .mem) (𝓡 .run)) 𝓜 𝓡 code.env #batches·answer answer-def.routine code.calls-batches·answer (answer-thm.met 𝓤 H 𝓜 𝓖 𝓡)))

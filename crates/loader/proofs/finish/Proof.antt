@@ -39,26 +39,26 @@ use denote.Triple.Table.{entered, cited}
 use denote.Triple.Walked.{says, Stays, stay-slice, stay-none, stay-none-slice, walkOf, goes-slice, goes-none, goes-none-slice, Walks, ends-at, walked, walk-meets}
 use denote.Exit.{yes}
 use Rattle.plain.specs.declared.Entry.{Entry}
-use Rattle.loader.specs.declared.State.{State}
-use Rattle.loader.specs.declared.Fed.{Fed}
-use Rattle.loader.specs.View.{FinishKeeps}
-use Rattle.loader.specs.Batch.{fedBy}
+use Rattle.state.specs.declared.State.{State}
+use Rattle.batches.specs.declared.Fed.{Fed}
+use Rattle.batches.specs.Batch.{fedBy}
+use Rattle.loader.specs.Keeps.{FinishKeeps}
 use Rattle.loader.proofs.Batching.{end-puts, end-small, ends}
 use Rattle.loader.proofs.LentAgain.{lent, Slice, lends-again, comes-back}
 use Rattle.loader.proofs.Passing.{LastBatch, PutBatch, Answer, state-val, bytes-val, Bytes, to-last, asks-last, gives-last, to-put, asks-put, gives-put, to-answer, asks-answer, gives-answer}
 use Rattle.plain.proofs.Entry as T
-use Rattle.loader.proofs.State as S
-use Rattle.loader.proofs.State.Laws as S′
-use Rattle.loader.proofs.Fed as F
-use Rattle.loader.proofs.last_batch.Symbol as last-batch-def
-use Rattle.loader.proofs.last_batch.Symbol.{name as #loader·last-batch}
-use Rattle.loader.proofs.last_batch.Met as last-batch-thm
+use Rattle.state.proofs.State as S
+use Rattle.state.proofs.State.Laws as S′
+use Rattle.batches.proofs.Fed as F
+use Rattle.batches.proofs.last_batch.Symbol as last-batch-def
+use Rattle.batches.proofs.last_batch.Symbol.{name as #batches·last-batch}
+use Rattle.batches.proofs.last_batch.Met as last-batch-thm
 use Rattle.loader.proofs.put_batch.Symbol as put-batch-def
 use Rattle.loader.proofs.put_batch.Symbol.{name as #loader·put-batch}
 use Rattle.loader.proofs.put_batch.Met as put-batch-thm
-use Rattle.loader.proofs.answer.Symbol as answer-def
-use Rattle.loader.proofs.answer.Symbol.{name as #loader·answer}
-use Rattle.loader.proofs.answer.Met as answer-thm
+use Rattle.batches.proofs.answer.Symbol as answer-def
+use Rattle.batches.proofs.answer.Symbol.{name as #batches·answer}
+use Rattle.batches.proofs.answer.Met as answer-thm
 use Rattle.loader.proofs.finish.Key.{name as #loader·finish}
 use Rattle.loader.proofs.finish as f
 use Rattle.loader.proofs.finish.Statement as stated
@@ -131,9 +131,9 @@ module _ {M : Type 1} (𝓤 : URA M) (H : Heap 𝓤) (A : Atoms 𝓤) (W : Given
 
   -- ---- the MIR
   walk : (𝓣 : Tables 𝓤 H)
-      → Triple 𝓤 (𝓣 .C #loader·last-batch) (LastBatch 𝓤 H A mem run)
+      → Triple 𝓤 (𝓣 .C #batches·last-batch) (LastBatch 𝓤 H A mem run)
       → Triple 𝓤 (𝓣 .C #loader·put-batch) (PutBatch 𝓤 H A mem run)
-      → Triple 𝓤 (𝓣 .C #loader·answer) (Answer 𝓤 H A mem run)
+      → Triple 𝓤 (𝓣 .C #batches·answer) (Answer 𝓤 H A mem run)
       → ent 𝓤 (onEntry 𝓤 H A f.signature (κ₀, (κ₁, (κ₂, tt))) (q₀, (q₁, (q₂, tt))) a vals) (WpFn 𝓤 H (𝓣 .C) (𝓣 .Λ) code.function (us ∷ sg ∷ st ∷ sr ∷ []) Post)
   walk 𝓣 known-last known-put known-answer =
       let fm : FmC 𝓤 H (W .laws) (𝓣 .C) = fmOf 𝓤 H (W .laws) 𝓣 in
@@ -201,9 +201,9 @@ module _ {M : Type 1} (𝓤 : URA M) (H : Heap 𝓤) (A : Atoms 𝓤) (W : Given
       by ! (exits (fedBy d) v″ t r′ (ends reg t₀ r₀ s₀ t r′ d en pt) lt lr)))))))))))))))))))))
 
 module _ {M : Type 1} (𝓤 : URA M) (H : Heap 𝓤) (A : Atoms 𝓤) (W : Given 𝓤 H A) (mem : Memory → SProp 𝓤) (run : Routine → Fun 𝓤) (𝓣 : Tables 𝓤 H)
-    (known-last : Triple 𝓤 (𝓣 .C #loader·last-batch) (LastBatch 𝓤 H A mem run))
+    (known-last : Triple 𝓤 (𝓣 .C #batches·last-batch) (LastBatch 𝓤 H A mem run))
     (known-put : Triple 𝓤 (𝓣 .C #loader·put-batch) (PutBatch 𝓤 H A mem run))
-    (known-answer : Triple 𝓤 (𝓣 .C #loader·answer) (Answer 𝓤 H A mem run)) where
+    (known-answer : Triple 𝓤 (𝓣 .C #batches·answer) (Answer 𝓤 H A mem run)) where
   finish-walks : Walks 𝓤 H A f.ended stayed (WpFn 𝓤 H (𝓣 .C) (𝓣 .Λ) code.function) (f.clauses 𝓤 H A mem run)
   finish-walks = walked 𝓤 H A f.ended stayed (f.clauses 𝓤 H A mem run) (WpFn 𝓤 H (𝓣 .C) (𝓣 .Λ) code.function)
       (λ κs. (LL.vals S.the-type S′.the-laws, (slice-vals, (slice-vals, (slice-vals, tt)))))
@@ -233,6 +233,6 @@ finish-spec 𝓤 H 𝓜 𝓖 𝓡 =
     entered 𝓤 H (tripleOf 𝓤 H (𝓖 .A) f.signature (f.spec 𝓤 H (𝓖 .A) (𝓜 .mem) (𝓡 .run)))
     (tables 𝓤 H 𝓜 𝓡 code.env .C) (tables 𝓤 H 𝓜 𝓡 code.env .Λ) #loader·finish code.function (code.unfolded 𝓤 H 𝓜 𝓡)
     (finish-meets 𝓤 H (𝓖 .A) (givenOf 𝓤 H 𝓜 𝓖) (𝓜 .mem) (𝓡 .run) (tablesOf 𝓤 H 𝓜 (tables 𝓤 H 𝓜 𝓡 code.env))
-    (cited 𝓤 H (LastBatch 𝓤 H (𝓖 .A) (𝓜 .mem) (𝓡 .run)) 𝓜 𝓡 code.env #loader·last-batch last-batch-def.routine code.calls-loader·last-batch (last-batch-thm.met 𝓤 H 𝓜 𝓖 𝓡))
+    (cited 𝓤 H (LastBatch 𝓤 H (𝓖 .A) (𝓜 .mem) (𝓡 .run)) 𝓜 𝓡 code.env #batches·last-batch last-batch-def.routine code.calls-batches·last-batch (last-batch-thm.met 𝓤 H 𝓜 𝓖 𝓡))
     (cited 𝓤 H (PutBatch 𝓤 H (𝓖 .A) (𝓜 .mem) (𝓡 .run)) 𝓜 𝓡 code.env #loader·put-batch put-batch-def.routine code.calls-loader·put-batch (put-batch-thm.met 𝓤 H 𝓜 𝓖 𝓡))
-    (cited 𝓤 H (Answer 𝓤 H (𝓖 .A) (𝓜 .mem) (𝓡 .run)) 𝓜 𝓡 code.env #loader·answer answer-def.routine code.calls-loader·answer (answer-thm.met 𝓤 H 𝓜 𝓖 𝓡)))
+    (cited 𝓤 H (Answer 𝓤 H (𝓖 .A) (𝓜 .mem) (𝓡 .run)) 𝓜 𝓡 code.env #batches·answer answer-def.routine code.calls-batches·answer (answer-thm.met 𝓤 H 𝓜 𝓖 𝓡)))

@@ -57,19 +57,19 @@ use denote.Triple.Table.{entered, cited}
 use denote.Triple.Walked.{says, needs, Stays, stay-slice, stay-none, walkOf, goes-slice, goes-none, Walks, ends-at, walked, walk-meets}
 use denote.Exit.{yes}
 use Rattle.plain.specs.declared.Entry.{Entry}
-use Rattle.loader.specs.declared.Batch.{Batch}
 use Rattle.pieces.specs.Ran.{entryAt, entriesIn}
-use Rattle.loader.specs.Batch.{pasted, Puts}
+use Rattle.batches.specs.declared.Batch.{Batch}
+use Rattle.loader.specs.Report.{pasted, Puts}
 use Rattle.loader.proofs.Bodies.{tail, field-read}
 use Rattle.loader.proofs.Pasting.{puts-within, puts-worded, none-pasted, one-more, pasted-as-long}
 use Rattle.plain.proofs.Entry as T
 use Rattle.plain.proofs.Entry.Laws as T′
-use Rattle.loader.proofs.Batch as D
-use Rattle.loader.proofs.Batch.Laws as D′
-use Rattle.loader.proofs.entry_in as entry-in
-use Rattle.loader.proofs.entry_in.Symbol as entry-in-def
-use Rattle.loader.proofs.entry_in.Symbol.{name as #loader·entry-in}
-use Rattle.loader.proofs.entry_in.Met as entry-in-thm
+use Rattle.batches.proofs.Batch as D
+use Rattle.batches.proofs.Batch.Laws as D′
+use Rattle.batches.proofs.entry_in as entry-in
+use Rattle.batches.proofs.entry_in.Symbol as entry-in-def
+use Rattle.batches.proofs.entry_in.Symbol.{name as #batches·entry-in}
+use Rattle.batches.proofs.entry_in.Met as entry-in-thm
 use Rattle.loader.proofs.put_batch.Key.{name as #loader·put-batch}
 use Rattle.loader.proofs.put_batch as f
 use Rattle.loader.proofs.put_batch.Statement as stated
@@ -198,7 +198,7 @@ module _ {M : Type 1} (𝓤 : URA M) (H : Heap 𝓤) (A : Atoms 𝓤) (W : Given
   Nearer-wf : WellFounded Nearer
   Nearer-wf = InvImage·wf (λ (i : Upto). n - i .0) (Nat·lt-wfRel .wf)
 
-  module _ (𝓣 : Tables 𝓤 H) (known : Triple 𝓤 (𝓣 .C #loader·entry-in) (EntryIn 𝓤 H A mem run)) (l₀ l₁ l₂ l₃ l₄ l₅ l₆ l₇ l₈ l₉ l₁₀ : ℕ) where
+  module _ (𝓣 : Tables 𝓤 H) (known : Triple 𝓤 (𝓣 .C #batches·entry-in) (EntryIn 𝓤 H A mem run)) (l₀ l₁ l₂ l₃ l₄ l₅ l₆ l₇ l₈ l₉ l₁₀ : ℕ) where
     abbrev C : Calls 𝓤 H
     C = 𝓣 .C
 
@@ -294,7 +294,7 @@ module _ {M : Type 1} (𝓤 : URA M) (H : Heap 𝓤) (A : Atoms 𝓤) (W : Given
         scaled less = omega (arith, within, room .1, ltb→lt (i .0) n less)
 
   -- the MIR up to the loop: the borrow of the report is opened
-  walk : (𝓣 : Tables 𝓤 H) → Triple 𝓤 (𝓣 .C #loader·entry-in) (EntryIn 𝓤 H A mem run)
+  walk : (𝓣 : Tables 𝓤 H) → Triple 𝓤 (𝓣 .C #batches·entry-in) (EntryIn 𝓤 H A mem run)
       → ent 𝓤 (onEntry 𝓤 H A f.signature (κ, tt) (q, tt) a vals) (WpFn 𝓤 H (𝓣 .C) (𝓣 .Λ) code.function (s ∷ ud ∷ []) Post)
   walk 𝓣 known =
       qed W ((‵ (flft κ q) ⊛ ‵ ftrue) ∷ ‵ (owns (MutSlice (named 0) κ T.the-row ∷ D.the-row ∷ []) a vals) ∷ []) ∵ enter ! (𝓣 .C) (𝓣 .Λ) code.function (s ∷ ud ∷ []) _ $
@@ -312,7 +312,7 @@ module _ {M : Type 1} (𝓤 : URA M) (H : Heap 𝓤) (A : Atoms 𝓤) (W : Given
       loops ! 𝓣 Nearer Nearer-wf (At 𝓣 known l₀ l₁ l₂ l₃ l₄ l₅ l₆ l₇ l₈ l₉ l₁₀) (turns 𝓣 known l₀ l₁ l₂ l₃ l₄ l₅ l₆ l₇ l₈ l₉ l₁₀) (0, zero-le))))))))))))
 
 module _ {M : Type 1} (𝓤 : URA M) (H : Heap 𝓤) (A : Atoms 𝓤) (W : Given 𝓤 H A) (mem : Memory → SProp 𝓤) (run : Routine → Fun 𝓤)
-    (𝓣 : Tables 𝓤 H) (known : Triple 𝓤 (𝓣 .C #loader·entry-in) (EntryIn 𝓤 H A mem run)) where
+    (𝓣 : Tables 𝓤 H) (known : Triple 𝓤 (𝓣 .C #batches·entry-in) (EntryIn 𝓤 H A mem run)) where
   put-batch-walks : Walks 𝓤 H A f.ended stayed (WpFn 𝓤 H (𝓣 .C) (𝓣 .Λ) code.function) (f.clauses 𝓤 H A mem run)
   put-batch-walks = walked 𝓤 H A f.ended stayed (f.clauses 𝓤 H A mem run) (WpFn 𝓤 H (𝓣 .C) (𝓣 .Λ) code.function)
       (λ κs. (slice-vals, (LL.vals D.the-type D′.the-laws, tt))) (λ κs. (mut-slice-tells (named 0) (κs .0) T.the-row, (LL.tells D.the-type D′.the-laws, tt)))
@@ -330,4 +330,4 @@ put-batch-spec 𝓤 H 𝓜 𝓖 𝓡 =
     entered 𝓤 H (tripleOf 𝓤 H (𝓖 .A) f.signature (f.spec 𝓤 H (𝓖 .A) (𝓜 .mem) (𝓡 .run)))
     (tables 𝓤 H 𝓜 𝓡 code.env .C) (tables 𝓤 H 𝓜 𝓡 code.env .Λ) #loader·put-batch code.function (code.unfolded 𝓤 H 𝓜 𝓡)
     (put-batch-meets 𝓤 H (𝓖 .A) (givenOf 𝓤 H 𝓜 𝓖) (𝓜 .mem) (𝓡 .run) (tablesOf 𝓤 H 𝓜 (tables 𝓤 H 𝓜 𝓡 code.env))
-    (cited 𝓤 H (EntryIn 𝓤 H (𝓖 .A) (𝓜 .mem) (𝓡 .run)) 𝓜 𝓡 code.env #loader·entry-in entry-in-def.routine code.calls-loader·entry-in (entry-in-thm.met 𝓤 H 𝓜 𝓖 𝓡)))
+    (cited 𝓤 H (EntryIn 𝓤 H (𝓖 .A) (𝓜 .mem) (𝓡 .run)) 𝓜 𝓡 code.env #batches·entry-in entry-in-def.routine code.calls-batches·entry-in (entry-in-thm.met 𝓤 H 𝓜 𝓖 𝓡)))

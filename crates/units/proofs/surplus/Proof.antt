@@ -5,14 +5,11 @@ use Rattle.units.proofs.Kept.{surplus-says}
 use Rattle.units.proofs.surplus.Statement.{statement}
 use Rattle.units.proofs.surplus.Tie as tie
 
-cast-t6 : tie.Need-cast-t6
-cast-t6 c = search needs
-
-add-t7 : tie.Need-add-t7
-add-t7 c = search needs
+meter-number-requires : tie.Need-meter-number-requires
+meter-number-requires c κs = search needs
 
 returns : tie.Need-returns
-returns c = surplus-says _ _ (c .before .args .r)
+returns c = surplus-says _ _ (c .before .args .r) _ (c .meter-number .ensures)
 
 pub surplus-spec : {M : Type 1} → statement M
-surplus-spec = tie.close (tie.spec cast-t6 add-t7 returns)
+surplus-spec = tie.close (tie.spec meter-number-requires returns)

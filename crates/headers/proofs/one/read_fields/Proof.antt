@@ -6,6 +6,13 @@ use Rattle.headers.proofs.Span.{one-id, one-channel, one-day, one-passe
 use Rattle.headers.proofs.one.read_fields.Statement.{statement}
 use Rattle.headers.proofs.one.read_fields.Tie as tie
 
+-- the place of each reading, from the one behind it: the day's, the channel's, the ESI ID's
+abbrev to-channel : tie.After-read-day → tie.After-read-channel
+to-channel c = c .before .before .before .before .before
+
+abbrev to-id : tie.After-read-channel → tie.After-is-esi-id
+to-id c = c .before .before .before .before
+
 field-requires : tie.Need-field-requires
 field-requires c κs = search needs
 
@@ -37,7 +44,9 @@ enum-told : tie.Need-enum-told
 enum-told c = search needs
 
 returns-2 : tie.Need-returns-2
-returns-2 c = one-channel _ _ _ (c .before .before .before .before .before .before .before .before .before .before .before .pre) (c .before .before .before .before .before .before .before .before .after .ensures) (c .before .before .before .before .before .before .before .field2 .ensures) _ (c .before .before .before .before .before .before .is-esi-id .ensures) (c .before .before .before .before .before .if1 .left) _ _ (c .before .before .before .before .after2 .ensures) (c .before .before .before .field3 .ensures) _ (c .before .before .read-channel .ensures) (c .enum-told .given .1)
+returns-2 c =
+    let k = c .before .before in let i = to-id k in
+    one-channel _ _ _ (i .before .before .before .before .before .pre) (i .before .before .after .ensures) (i .before .field2 .ensures) _ (i .is-esi-id .ensures) (k .before .before .before .if1 .left) _ _ (k .before .before .after2 .ensures) (k .before .field3 .ensures) _ (k .read-channel .ensures) (c .enum-told .given .1)
 
 after-requires-3 : tie.Need-after-requires-3
 after-requires-3 c κs = search needs
@@ -52,13 +61,17 @@ enum-known-day : tie.Need-enum-known-day
 enum-known-day c = search needs
 
 start-of-requires : tie.Need-start-of-requires
-start-of-requires c κs = rest-after _ _ _ (rest-whole _) (c .before .before .before .before .before .before .before .before .before .before .before .before .before .before .after .ensures)
+start-of-requires c κs = let i = to-id (to-channel (c .before .before .before)) in rest-after _ _ _ (rest-whole _) (i .before .before .after .ensures)
 
 returns-3 : tie.Need-returns-3
-returns-3 c = one-day _ _ _ (c .before .before .before .before .before .before .before .before .before .before .before .before .before .before .before .before .before .pre) (c .before .before .before .before .before .before .before .before .before .before .before .before .before .before .after .ensures) (c .before .before .before .before .before .before .before .before .before .before .before .before .before .field2 .ensures) _ (c .before .before .before .before .before .before .before .before .before .before .before .before .is-esi-id .ensures) (c .before .before .before .before .before .before .before .before .before .before .before .if1 .left) _ _ (c .before .before .before .before .before .before .before .before .before .before .after2 .ensures) (c .before .before .before .before .before .before .before .before .before .field3 .ensures) _ (c .before .before .before .before .before .before .before .before .read-channel .ensures) _ (c .before .before .before .before .before .before .channel .given .1) _ (c .before .before .before .before .after3 .ensures) _ (c .before .before .before .read-day .ensures) _ (c .before .verdict .given .1)
+returns-3 c =
+    let d = c .before .before .before in let k = to-channel d in let i = to-id k in
+    one-day _ _ _ (i .before .before .before .before .before .pre) (i .before .before .after .ensures) (i .before .field2 .ensures) _ (i .is-esi-id .ensures) (k .before .before .before .if1 .left) _ _ (k .before .before .after2 .ensures) (k .before .field3 .ensures) _ (k .read-channel .ensures) _ (d .before .before .before .channel .given .1) _ (d .before .after3 .ensures) _ (d .read-day .ensures) _ (c .before .verdict .given .1)
 
 returns-4 : tie.Need-returns-4
-returns-4 c = one-passed _ _ _ (c .before .before .before .before .before .before .before .before .before .before .before .before .before .before .before .before .before .before .pre) (c .before .before .before .before .before .before .before .before .before .before .before .before .before .before .before .after .ensures) (c .before .before .before .before .before .before .before .before .before .before .before .before .before .before .field2 .ensures) _ (c .before .before .before .before .before .before .before .before .before .before .before .before .before .is-esi-id .ensures) (c .before .before .before .before .before .before .before .before .before .before .before .before .if1 .left) _ _ (c .before .before .before .before .before .before .before .before .before .before .before .after2 .ensures) (c .before .before .before .before .before .before .before .before .before .before .field3 .ensures) _ (c .before .before .before .before .before .before .before .before .before .read-channel .ensures) _ (c .before .before .before .before .before .before .before .channel .given .1) _ (c .before .before .before .before .before .after3 .ensures) _ (c .before .before .before .before .read-day .ensures) _ _ (c .before .before .day .given .1) (c .start-of .ensures)
+returns-4 c =
+    let d = c .before .before .before .before in let k = to-channel d in let i = to-id k in
+    one-passed _ _ _ (i .before .before .before .before .before .pre) (i .before .before .after .ensures) (i .before .field2 .ensures) _ (i .is-esi-id .ensures) (k .before .before .before .if1 .left) _ _ (k .before .before .after2 .ensures) (k .before .field3 .ensures) _ (k .read-channel .ensures) _ (d .before .before .before .channel .given .1) _ (d .before .after3 .ensures) _ (d .read-day .ensures) _ _ (c .before .before .day .given .1) (c .start-of .ensures)
 
 pub read-fields-spec : {M : Type 1} → statement M
 read-fields-spec =

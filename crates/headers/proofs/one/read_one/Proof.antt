@@ -3,21 +3,8 @@
 use borrow.Author.Needs.{needs}
 use Rattle.lines.proofs.Begin.{begun-count, row-refused, row-read}
 use Rattle.headers.specs.One.{rowOne}
-use Rattle.headers.proofs.UsualOne.{one-taken}
 use Rattle.headers.proofs.one.read_one.Statement.{statement}
 use Rattle.headers.proofs.one.read_one.Tie as tie
-
-usual-one-requires : tie.Need-usual-one-requires
-usual-one-requires c κs = search needs
-
-enum-known-id : tie.Need-enum-known-id
-enum-known-id c = search needs
-
-returns : tie.Need-returns
-returns c = one-taken _ _ (c .before .before .before .usual-one .ensures) _ _ _ (c .before .id .given .1) _
-
-enum-told : tie.Need-enum-told
-enum-told c = search needs
 
 slice-aggregate-begin : tie.Need-slice-aggregate-begin
 slice-aggregate-begin c = search needs
@@ -28,32 +15,28 @@ begin-requires c κs = search needs
 enum-known-verdict : tie.Need-enum-known-verdict
 enum-known-verdict c = search needs
 
-enum-told-2 : tie.Need-enum-told-2
-enum-told-2 c = search needs
+enum-told : tie.Need-enum-told
+enum-told c = search needs
 
 read-fields-requires : tie.Need-read-fields-requires
-read-fields-requires c κs = begun-count _ _ _ _ _ (c .before .before .begin .ensures) (c .enum-told2 .given .1)
+read-fields-requires c κs = begun-count _ _ _ _ _ (c .before .before .begin .ensures) (c .enum-told .given .1)
+
+returns : tie.Need-returns
+unfolding rowOne
+returns c = row-refused _ _ _ _ _ (c .before .before .before .begin .ensures) _ _ (c .before .verdict .given .1)
 
 returns-2 : tie.Need-returns-2
 unfolding rowOne
-returns-2 c = row-refused _ _ _ _ _ (c .before .before .before .begin .ensures) _ _ (c .before .verdict .given .1)
-
-returns-3 : tie.Need-returns-3
-unfolding rowOne
-returns-3 c = row-read _ _ _ _ _ (c .before .before .before .begin .ensures) _ (c .before .enum-told2 .given .1) _ (c .read-fields .ensures)
+returns-2 c = row-read _ _ _ _ _ (c .before .before .before .begin .ensures) _ (c .before .enum-told .given .1) _ (c .read-fields .ensures)
 
 pub read-one-spec : {M : Type 1} → statement M
 read-one-spec =
     tie.close
     (tie.spec
-    usual-one-requires
-    enum-known-id
-    returns
-    enum-told
     slice-aggregate-begin
     begin-requires
     enum-known-verdict
-    enum-told-2
+    enum-told
     read-fields-requires
-    returns-2
-    returns-3)
+    returns
+    returns-2)

@@ -3,19 +3,9 @@
 use borrow.Author.Needs.{needs}
 use Rattle.lines.proofs.Begin.{begun-due, begun-count, row-refused}
 use Rattle.headers.specs.Two.{rowTwo}
-use Rattle.headers.proofs.Forms.{usual, two-usual, two-passed, two-refused}
+use Rattle.headers.proofs.Forms.{two-passed, two-refused}
 use Rattle.headers.proofs.two.read_two.Statement.{statement}
 use Rattle.headers.proofs.two.read_two.Tie as tie
-
-slice-aggregate-same : tie.Need-slice-aggregate-same
-slice-aggregate-same c = search needs
-
-same-requires : tie.Need-same-requires
-same-requires c κs = search needs
-
-returns : tie.Need-returns
-unfolding usual
-returns c = two-usual _ _ _ (c .before .same .ensures) (c .if1 .taken)
 
 slice-aggregate-begin : tie.Need-slice-aggregate-begin
 slice-aggregate-begin c = search needs
@@ -35,31 +25,28 @@ fit-all-requires c κs = begun-due _ _ _ _ _ (c .before .before .begin .ensures)
 has-multiplier-requires : tie.Need-has-multiplier-requires
 has-multiplier-requires c κs = begun-count _ _ _ _ _ (c .before .before .before .begin .ensures) (c .before .enum-told .given .1)
 
-returns-2 : tie.Need-returns-2
+returns : tie.Need-returns
 unfolding rowTwo
-returns-2 c = row-refused _ _ _ _ _ (c .before .before .before .begin .ensures) _ _ (c .before .verdict .given .1)
+returns c = row-refused _ _ _ _ _ (c .before .before .before .begin .ensures) _ _ (c .before .verdict .given .1)
+
+returns-2 : tie.Need-returns-2
+returns-2 c =
+    two-passed _ _ _ (c .before .before .before .before .before .begin .ensures) (c .before .before .before .enum-told .given .1) _ _ (c .before .before .fit-all .ensures) (c .before .has-multiplier .ensures) (c .if1 .taken)
 
 returns-3 : tie.Need-returns-3
 returns-3 c =
-    two-passed _ _ _ (c .before .before .before .before .before .begin .ensures) (c .before .before .before .enum-told .given .1) _ _ (c .before .before .fit-all .ensures) (c .before .has-multiplier .ensures) (c .if2 .taken)
-
-returns-4 : tie.Need-returns-4
-returns-4 c =
-    two-refused _ _ _ (c .before .before .before .before .before .begin .ensures) (c .before .before .before .enum-told .given .1) _ _ (c .before .before .fit-all .ensures) (c .before .has-multiplier .ensures) (c .if2 .left)
+    two-refused _ _ _ (c .before .before .before .before .before .begin .ensures) (c .before .before .before .enum-told .given .1) _ _ (c .before .before .fit-all .ensures) (c .before .has-multiplier .ensures) (c .if1 .left)
 
 pub read-two-spec : {M : Type 1} → statement M
 read-two-spec =
     tie.close
     (tie.spec
-    slice-aggregate-same
-    same-requires
-    returns
     slice-aggregate-begin
     begin-requires
     enum-known-verdict
     enum-told
     fit-all-requires
     has-multiplier-requires
+    returns
     returns-2
-    returns-3
-    returns-4)
+    returns-3)

@@ -3,8 +3,8 @@
 use mathlib.Core.Path.{sym, _∙_}
 use Prim.Native.Nat.{_-_}
 use lib.ListN.{length}
-use Rattle.loader.specs.declared.State.{State}
-use Rattle.loader.specs.Batch.{Starts}
+use Rattle.state.specs.declared.State.{State}
+use Rattle.batches.specs.Batch.{Starts}
 use Rattle.loader.specs.Words.{placesIn}
 use Rattle.loader.proofs.WordsLaws.{WordsInv, words-begin, words-go, words-put, words-less, words-step, words-small, words-stop}
 use native.Mathlib.Omega.{arith}

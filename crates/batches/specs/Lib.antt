@@ -1,0 +1,2 @@
+-- The batches that a call works in.
+pub mod Batch

@@ -1,0 +1,67 @@
+-- `statewords::put_words` meets its contract.
+-- Assumes nothing.
+use Prim.Native.Nat.{_-_, _≤_}
+use mathlib.Core.Path.{_≡_}
+use lib.ListN.{length, length-set}
+use lib.Seq.{paste, paste-zero}
+use borrow.Author.Needs.{needs}
+use Rattle.statewords.proofs.Copies.{put-again, put-end}
+use Rattle.statewords.proofs.put_words.Statement.{statement}
+use Rattle.statewords.proofs.put_words.Tie as tie
+
+abbrev Inv-loop : tie.InvT-loop
+Inv-loop to₀ at from i₀ to i = (i ≤ length from) × (length to ≡ length to₀) × (to ≡ paste to₀ at from i)
+
+abbrev μ-loop : tie.MeasureT-loop
+μ-loop to₀ at from i₀ to i = length from - i
+
+loop-holds : tie.Need-loop-holds Inv-loop μ-loop
+loop-holds c = (search needs, search needs, paste-zero (c .args .to .now) (c .args .at) (c .args .from .now))
+
+mul-to : tie.Need-mul-to Inv-loop μ-loop
+mul-to c = search needs
+
+shared-slice-read-to : tie.Need-shared-slice-read-to Inv-loop μ-loop
+shared-slice-read-to c = search needs
+
+add-to : tie.Need-add-to Inv-loop μ-loop
+add-to c = search needs
+
+mul-to-2 : tie.Need-mul-to-2 Inv-loop μ-loop
+mul-to-2 c = search needs
+
+slice-write-to : tie.Need-slice-write-to Inv-loop μ-loop
+slice-write-to c = search needs
+
+add-i : tie.Need-add-i Inv-loop μ-loop
+add-i c = search needs
+
+loop-less : tie.Need-loop-less Inv-loop μ-loop
+loop-less c = search needs
+
+loop-again : tie.Need-loop-again Inv-loop μ-loop
+loop-again c = (search needs, simp length-set (search needs), put-again (c .before .before .before .args .to .now) (c .before .before .loop .to) (c .before .before .before .args .at) (c .before .before .before .args .from .now) (c .before .before .loop .i) (c .before .before .loop .inv .2) (search needs) (search needs))
+
+same-length : tie.Need-same-length Inv-loop μ-loop
+same-length c = search needs
+
+returns : tie.Need-returns Inv-loop μ-loop
+returns c = put-end (c .before .before .args .to .now) (c .before .loop .to) (c .before .before .args .at) (c .before .before .args .from .now) (c .before .loop .i) (c .before .loop .inv .2) (search needs) (search needs) (search needs)
+
+pub put-words-spec : {M : Type 1} → statement M
+put-words-spec =
+    tie.close
+    (tie.spec
+    Inv-loop
+    μ-loop
+    loop-holds
+    mul-to
+    shared-slice-read-to
+    add-to
+    mul-to-2
+    slice-write-to
+    add-i
+    loop-less
+    loop-again
+    same-length
+    returns)

@@ -1,0 +1,2 @@
+-- What the quick readers of usual rows owe, beside the rows' rules in headers.
+pub mod Answer
