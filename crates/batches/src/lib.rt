@@ -11,6 +11,7 @@
 //
 // For whoever changes it: a batch is passed by value and holds all that goes from one turn of a feed to the next, so that the calls above have only borrows
 // to pass on. It has room for the entries of the lines that `read_lines` reads before it stops.
+#![tactic(auto)]
 ghost use Rattle.std.specs.Prelude.{◌≡◌, ◌+◌, ◌*◌, ◌<◌, length};
 ghost use Rattle.report.specs.Words.{per_entry, entry_at};
 ghost use Rattle.registry.specs.Registry.{max_meters};
@@ -29,7 +30,7 @@ use state::refuse::number_for;
 use state::{State, sized, with_taken};
 
 // What a call returns.
-#[derive(Drop)]
+#[derive(Clone, Copy)]
 pub struct Fed {
     pub number: u32,
     pub count: usize,
@@ -37,7 +38,7 @@ pub struct Fed {
 }
 
 // Some lines of a piece that were read: the place behind them, and their entries as words, to be put into the report from a place on.
-#[derive(Drop)]
+#[derive(Clone, Copy)]
 pub struct Batch {
     pub going: bool,
     pub number: u32,

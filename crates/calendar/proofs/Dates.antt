@@ -69,11 +69,11 @@ is_real date r =
     (le-leb _ _ r.day-to)
 
 -- what the code's test of a date tells, on either way
-pub test-real : (date : ℕ) {test : Bool} → test ≡ is_date date → not test ≡ false → is_date date ≡ true
-test-real date {test} e f = sym e ∙ not-false test f
+pub test-real : (date : ℕ) {test : Bool} → test ≡ is_date date → test ≡ true → is_date date ≡ true
+test-real date {test} e f = sym e ∙ f
 
-pub test_none : (date : ℕ) {test : Bool} → test ≡ is_date date → not test ≡ true → is_date date ≡ false
-test_none date {test} e f = sym e ∙ not-true test f
+pub test_none : (date : ℕ) {test : Bool} → test ≡ is_date date → test ≡ false → is_date date ≡ false
+test_none date {test} e f = sym e ∙ f
 
 -- ---- a day of a month
 

@@ -1,4 +1,6 @@
 // Dates, clock times and day numbers from 2007 to 2099, and how many intervals a day has. Any number gets an answer.
+#![tactic(auto)]
+
 ghost use Rattle.std.specs.Prelude.{◌≡◌, true, ◌<◌, ◌≤◌};
 ghost use Rattle.calendar.specs.Date.{is_leap, month_length, is_date};
 ghost use Rattle.calendar.specs.Clock.{is_clock};
@@ -32,7 +34,7 @@ fn wide(x: u16) -> u32
 }
 
 // The number of a date's day, from 20070101 = 0.
-#[derive(Drop)]
+#[derive(Clone, Copy)]
 pub enum Day {
     Number(u32),
     NoDate,

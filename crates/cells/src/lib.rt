@@ -3,6 +3,7 @@
 //
 // For whoever changes it: `cell_number` is the only place that knows the order of the cells; others go by its laws (proofs/Numbers.antt):
 // below the number of cells, and no two addresses alike.
+#![tactic(auto)]
 ghost use Rattle.std.specs.Prelude.{◌≡◌, ◌+◌, ◌*◌, ◌<◌, ◌≤◌};
 ghost use Rattle.report.specs.Outcome.{number_of};
 ghost use Rattle.registry.specs.Registry.{max_meters};
@@ -23,7 +24,7 @@ use report::refusal::{BAD_REGISTRY, DONE, EMPTY_CELL, NO_CELL, SHORT_TABLE, UNSO
 pub const CHANNELS: usize = 2;
 
 // Where a cell's words begin in the table, or what the call returns.
-#[derive(Drop)]
+#[derive(Clone, Copy)]
 pub enum CellFound {
     At(usize),
     Refused(u32),

@@ -1,6 +1,7 @@
 // The registry checks of a record that has all its rows: 30 to 35.
 //
 // For whoever changes it: the checks and their order are `meter_checks` of specs/Check.antt and `meter_checks` here.
+#![tactic(auto)]
 ghost use Rattle.std.specs.Prelude.{◌≡◌, ◌<◌};
 ghost use Rattle.checks.specs.Check.{has_flag, flag_checks, day_in, day_says, flags_say, judge as judged, Asks};
 
@@ -18,19 +19,19 @@ const INTERVAL_FLAG: u8 = 2;
 const IDR_FLAG: u8 = 4;
 
 // Meter and window day, each from 0; or the verdict, and the meter as the report numbers it: from 1, 0 if unknown.
-#[derive(Drop)]
+#[derive(Clone, Copy)]
 pub enum Judgement {
     Passed(usize, usize),
     Refused(u32, u32),
 }
 
-#[derive(Drop)]
+#[derive(Clone, Copy)]
 pub enum WindowDay {
     Is(usize),
     Outside,
 }
 
-#[derive(Drop)]
+#[derive(Clone, Copy)]
 pub enum FlagCheck {
     Passed,
     Refused(u32),

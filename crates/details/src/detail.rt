@@ -15,27 +15,27 @@ use text::fields::{after, field};
 pub const PER_ROW: u32 = 4;
 
 // Watt hours, and whether they are estimated.
-#[derive(Drop)]
+#[derive(Clone, Copy)]
 pub struct Interval {
     pub wh: u32,
     pub estimated: bool,
 }
 
-#[derive(Drop)]
+#[derive(Clone, Copy)]
 pub enum Status {
     Actual,
     Estimated,
     Unknown,
 }
 
-#[derive(Drop)]
+#[derive(Clone, Copy)]
 pub enum IntervalRead {
     Read(Interval),
     Refused(u32),
 }
 
 // The four intervals, or the verdict.
-#[derive(Drop)]
+#[derive(Clone, Copy)]
 pub enum Detail {
     Passed(Interval, Interval, Interval, Interval),
     Refused(u32),

@@ -14,7 +14,7 @@ pub const WHOLE_DIGITS: usize = 6;
 pub const PART_DIGITS: usize = 3;
 
 // Watt hours, or the verdict.
-#[derive(Drop)]
+#[derive(Clone, Copy)]
 pub enum Value {
     WattHours(u32),
     Refused(u32),

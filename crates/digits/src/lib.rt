@@ -5,6 +5,8 @@
 //     end = put_decimal(out, end, line);            // a number in decimal, no zeros in front
 //
 // For whoever changes it: a number's digits are `digits_of` of text/specs/Number.antt; `put_digits` is the only function that finds them.
+#![tactic(auto)]
+
 ghost use Rattle.std.specs.Prelude.{◌≡◌, ◌<◌, length, drop};
 ghost use Rattle.text.specs.Number.{digits_of};
 ghost use Rattle.digits.specs.Put.{Room, Put};

@@ -16,7 +16,7 @@ use text::fields::field;
 
 // Watt hours, whether they are estimated, and the place behind; or it is for the plain reader. The parts stand by themselves, not as an `Interval`: a
 // struct is copied whole, and the processor waits if its parts were written one by one just before.
-#[derive(Drop)]
+#[derive(Clone, Copy)]
 enum AnyTriple {
     Read(u32, bool, usize),
     Other,

@@ -8,7 +8,7 @@ use crate::word::{aligned, all_numerals, eight};
 use details::value::PART_DIGITS;
 
 // A value's digits in line, in one word, and how many bytes the value has; or it is for another reader. `word::number` makes watt hours of them.
-#[derive(Drop)]
+#[derive(Clone, Copy)]
 pub enum Digits {
     Word(u64, usize),
     Other,

@@ -13,6 +13,7 @@
 // takes fewer lines is slower and still right. The shape was chosen by measuring: bytes tested and digits read several at once, in a word,
 // the four intervals one after another with no loop, and a span of fixed size, of which every index is proved to be inside. `read_triple` and
 // `read_direct` have to stay small: the compiler makes them a part of their caller's code (triple.rt and any.rt have what it costs otherwise).
+#![tactic(auto)]
 ghost use Rattle.std.specs.Prelude.{◌≡◌, ◌+◌, ◌<◌, ◌≤◌, true, [], ◌∷◌, ◌++◌, length, take, drop};
 ghost use Rattle.text.specs.Field.{comma};
 ghost use Rattle.details.specs.Detail.{detail_code};
@@ -31,7 +32,7 @@ mod triple;
 mod word;
 
 // A whole detail line, of so many bytes before its LF; or it is for the plain reader.
-#[derive(Drop)]
+#[derive(Clone, Copy)]
 pub enum Direct {
     Line(Interval, Interval, Interval, Interval, usize),
     Other,

@@ -6,14 +6,14 @@ use crate::guess::{Digits, read_digits};
 use crate::word::four;
 
 // Whether a value is estimated; or what stands behind it is for the plain reader.
-#[derive(Drop)]
+#[derive(Clone, Copy)]
 pub enum Tail {
     Status(bool),
     Other,
 }
 
 // A value's digits in line, whether it is estimated, and the place behind; or it is for another reader.
-#[derive(Drop)]
+#[derive(Clone, Copy)]
 pub enum Triple {
     Read(u64, bool, usize),
     Other,

@@ -4,6 +4,7 @@
 //     io::write_all(1, &out[0..q.end]);
 //
 // For whoever changes it: a line is `line_of` of specs/Listing.antt. Nothing here writes anywhere but into the lent bytes.
+#![tactic(auto)]
 ghost use Rattle.std.specs.Prelude.{◌+◌, ◌*◌, ◌≤◌, length};
 ghost use Rattle.digits.specs.Put.{Put};
 ghost use Rattle.report.specs.Words.{per_entry};
@@ -19,7 +20,7 @@ const WIDEST: usize = MOST_DIGITS + 1;
 pub const LONGEST: usize = PER_ENTRY * WIDEST;
 
 // How many entries were put, and the place behind them.
-#[derive(Drop)]
+#[derive(Clone, Copy)]
 pub struct Listed {
     pub entries: usize,
     pub end: usize,

@@ -2,6 +2,7 @@
 //
 //     let answer = estimates(registry, table, meter, channel, day);   // meter from 0, load 0 or generation 1, window day from 0
 //     if answer.number == 0 { .. answer.count .. }                      // else document 01's refusal 2, 3, 6, 7 or 8, and count 0
+#![tactic(auto)]
 ghost use Rattle.std.specs.Prelude.{◌≡◌};
 ghost use Rattle.estimates.specs.Estimates.{estimates_of};
 
@@ -11,7 +12,7 @@ use reads::sound::count_marks;
 use report::refusal::DONE;
 
 // The number returned, and the count of a call that is done.
-#[derive(Drop)]
+#[derive(Clone, Copy)]
 pub struct Counted {
     pub number: u32,
     pub count: u32,

@@ -1,5 +1,6 @@
 // Every example row of use case 02 (source 002), valid and invalid, through the readers: the verdict, what the row gives, the row.
 // Verdict 0 is a row that passes. Last come lines that no document has.
+#![tactic(auto)]
 mod show;
 
 use show::{detail, four, heading, odd, one, thirty, three, two};

@@ -12,7 +12,7 @@ use text::bytes::same;
 use text::fields::{after, field};
 
 // The stamp, or the verdict.
-#[derive(Drop)]
+#[derive(Clone, Copy)]
 pub enum Four {
     Passed(Stamp),
     Refused(u32),

@@ -12,26 +12,26 @@ use text::bytes::same;
 use text::fields::{after, field};
 use text::names::is_esi_id;
 
-#[derive(Drop)]
+#[derive(Clone, Copy)]
 pub enum Channel {
     Load,
     Generation,
 }
 
 // The place of the ESI ID, the channel, and the day YYYYMMDD; or the verdict.
-#[derive(Drop)]
+#[derive(Clone, Copy)]
 pub enum One {
     Passed(Place, Channel, u32),
     Refused(u32),
 }
 
-#[derive(Drop)]
+#[derive(Clone, Copy)]
 pub enum ChannelRead {
     Is(Channel),
     Other,
 }
 
-#[derive(Drop)]
+#[derive(Clone, Copy)]
 pub enum DayRead {
     Date(u32),
     Refused(u32),

@@ -16,7 +16,7 @@ use text::names::is_duns;
 const SENDER_NAME_SIZE: usize = 7;
 
 // The place of the Sender's number, or the verdict.
-#[derive(Drop)]
+#[derive(Clone, Copy)]
 pub enum Thirty {
     Passed(Place),
     Refused(u32),

@@ -15,20 +15,20 @@ const TIME_SIZE: usize = 14;
 pub const DAY_STOP: u32 = 235900;
 
 // A date YYYYMMDD and a time of day HHMMSS.
-#[derive(Drop)]
+#[derive(Clone, Copy)]
 pub struct Time {
     pub date: u32,
     pub clock: u32,
 }
 
 // When a read was made: of the reads for a cell the one with the latest stamp wins.
-#[derive(Drop)]
+#[derive(Clone, Copy)]
 pub struct Stamp {
     pub date: u32,
     pub clock: u32,
 }
 
-#[derive(Drop)]
+#[derive(Clone, Copy)]
 pub enum TimeRead {
     At(Time),
     Misfit,

@@ -6,6 +6,8 @@
 // A row's reader begins with `row::begin`: the verdicts 11, 13 and 14, in this order.
 //
 // For whoever changes it: the limit of a line is `LINE_LIMIT`, the verdicts' numbers are in `verdict` and specs/Verdict.antt.
+#![tactic(auto)]
+
 pub mod end;
 pub mod keep;
 pub mod line;

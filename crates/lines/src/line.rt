@@ -12,7 +12,7 @@ pub const CR: u8 = 13;
 // The most bytes of a line that is not long, its CR included.
 pub const LINE_LIMIT: usize = 200;
 
-#[derive(Drop)]
+#[derive(Clone, Copy)]
 pub enum Kind {
     Empty,
     Opener,

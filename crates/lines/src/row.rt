@@ -9,21 +9,21 @@ use text::bytes::same;
 use text::fields::{field, field_count};
 
 // Where a text stands in its line.
-#[derive(Drop)]
+#[derive(Clone, Copy)]
 pub struct Place {
     pub at: usize,
     pub len: usize,
 }
 
 // A row that is not long, has its code and its number of fields; or the verdict.
-#[derive(Drop)]
+#[derive(Clone, Copy)]
 pub enum Begun {
     Fields,
     Refused(u32),
 }
 
 // A row of which only its verdict is wanted.
-#[derive(Drop)]
+#[derive(Clone, Copy)]
 pub enum Checked {
     Passed,
     Refused(u32),

@@ -5,6 +5,7 @@
 // It prints a header, then each entry's five numbers: first line, verdict, deciding line, meter, day. A call that is refused prints `refused` and
 // its number, and ends it. A missing registry.dat counts as empty; one that is longer than the program has room for is said so on standard
 // error, and nothing is loaded. The table has 64 cells, cleared.
+#![tactic(auto)]
 ghost use Rattle.std.specs.Prelude.{◌≡◌, ◌*◌, length};
 ghost use Rattle.cell.specs.Layout.{width};
 

@@ -8,7 +8,7 @@ use text::names::ESI_ID_SIZE;
 
 const WORD_SIZE: usize = 8;
 
-#[derive(Drop)]
+#[derive(Clone, Copy)]
 pub enum Order {
     Less,
     Same,

@@ -12,7 +12,7 @@ use records::Known;
 use units::{Said, Unit, read_line};
 
 // The unit, the line count, the bytes held of a line, the place behind what was read, and the verdicts that fell, in order.
-#[derive(Drop)]
+#[derive(Clone, Copy)]
 pub struct Moved {
     pub unit: Unit,
     pub lines: u32,

@@ -17,7 +17,7 @@ pub const BATCH_SIZE: usize = 256;
 pub const BATCH_WORDS: usize = BATCH_SIZE * PER_ENTRY;
 
 // The unit, the line count, the bytes held of a line, the place behind what was read, and how many entries were put.
-#[derive(Drop)]
+#[derive(Clone, Copy)]
 pub struct Run {
     pub unit: Unit,
     pub lines: u32,

@@ -1,4 +1,5 @@
 // What the programs print, on standard output.
+#![tactic(auto)]
 ghost use Rattle.std.specs.Prelude.{◌*◌, ◌≤◌, length};
 ghost use Rattle.report.specs.Words.{per_entry};
 

@@ -3,6 +3,7 @@
 //
 // A record is kept in two parts: a few numbers that go by value (`Progress`), and its ESI ID, Sender and the words of its cell, which are
 // lent. For whoever changes it: the order of the rows is `due_row` of plain/specs/Rows.antt and `row_next` here.
+#![tactic(auto)]
 ghost use Rattle.std.specs.Prelude.{◌≡◌, [], ◌∷◌, true, ◌*◌, ◌<◌, ◌≤◌, length};
 ghost use Rattle.calendar.specs.Date.{is_date};
 ghost use Rattle.text.specs.Byte.{Bytes};
@@ -41,7 +42,7 @@ pub const HEADER_ROWS: u32 = 4;
 pub const MAX_DETAILS: u32 = Cell::INTERVALS as u32 / PER_ROW;
 
 // A record that takes rows: how many were read behind row one, how many detail rows the day has, and the day as YYYYMMDD.
-#[derive(Drop)]
+#[derive(Clone, Copy)]
 pub struct Progress {
     pub read: u32,
     pub due: u32,
@@ -50,7 +51,7 @@ pub struct Progress {
 }
 
 // A record that has all its rows and has passed the registry checks: its meter, and its day counted from the first of the window, both from 0.
-#[derive(Drop)]
+#[derive(Clone, Copy)]
 pub struct Ready {
     pub meter: u16,
     pub offset: u16,
@@ -59,7 +60,7 @@ pub struct Ready {
 }
 
 // What a row makes of its record: the verdict and the meter as the report numbers it; or a further row is due; or it waits.
-#[derive(Drop)]
+#[derive(Clone, Copy)]
 pub enum RowRead {
     Refused(u32, u32),
     GoesOn(Progress),
@@ -67,7 +68,7 @@ pub enum RowRead {
 }
 
 // How many meters the registry has, its window, and the meter to try first.
-#[derive(Drop)]
+#[derive(Clone, Copy)]
 pub struct Known {
     pub count: usize,
     pub window: Window,

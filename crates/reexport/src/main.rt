@@ -1,5 +1,6 @@
 // Writes the cells of a small table out, loads the text into a cleared table, and prints what Write answered, the text, and the report of the load.
 // Then what Write refuses.
+#![tactic(auto)]
 ghost use Rattle.std.specs.Prelude.{◌+◌, ◌*◌, ◌≤◌, length};
 ghost use Rattle.cell.specs.Layout.{width, max_intervals};
 

@@ -1,4 +1,5 @@
 // Registries, good and bad, and cells, sound and not: what Estimates answers of meter 0, load, on window day 0.
+#![tactic(auto)]
 mod show;
 
 use show::{cells, registry};

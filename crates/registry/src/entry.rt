@@ -29,21 +29,21 @@ const MAX_DAYS: u32 = 62;
 const ALL_FLAGS: u8 = 7;
 
 // The days of the window: the first one's number, and how many.
-#[derive(Drop)]
+#[derive(Clone, Copy)]
 pub struct Window {
     pub first: u32,
     pub days: u32,
 }
 
 // What the registry begins with.
-#[derive(Drop)]
+#[derive(Clone, Copy)]
 pub enum Start {
     From(Window),
     NoWindow,
 }
 
 // What stands at a later place of it.
-#[derive(Drop)]
+#[derive(Clone, Copy)]
 pub enum Kind {
     Owner,
     Meter,

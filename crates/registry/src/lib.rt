@@ -10,6 +10,7 @@
 //
 // For whoever changes it: the rules are specs/Entry.antt (one entry) and specs/Registry.antt (their order), by kind and size; the longest
 // window is `MAX_DAYS`. Owners are unlimited and a meter's owner is kept with the meter, so a registry may be of any length.
+#![tactic(auto)]
 ghost use Rattle.std.specs.Prelude.{◌≡◌, false, ◌+◌, ◌<◌, length, drop};
 ghost use Rattle.text.specs.Byte.{equals};
 ghost use Rattle.text.specs.Identifier.{esi_id_size};
@@ -29,7 +30,7 @@ use text::names::ESI_ID_SIZE;
 pub const MAX_METERS: usize = 1000;
 
 // Whether the registry breaks no rule, its window, and the places of its meters' entries and of their owners'.
-#[derive(Drop)]
+#[derive(Clone, Copy)]
 pub struct Index {
     pub sound: bool,
     pub window: Window,
@@ -39,7 +40,7 @@ pub struct Index {
 }
 
 // The place of a meter among the meters, from 0.
-#[derive(Drop)]
+#[derive(Clone, Copy)]
 pub enum Found {
     At(usize),
     Unknown,

@@ -4,12 +4,14 @@
 //
 // For whoever changes it: a new verdict or refusal gets a name in specs/Verdict.antt or specs/Refusal.antt and a constant in `verdict` or `refusal`; nobody
 // else writes their numbers.
+#![tactic(auto)]
+
 pub mod refusal;
 pub mod verdict;
 pub mod words;
 
 // One unit's verdict in the report: its first line, the verdict, the deciding line, the meter (1 upward; 0 unknown), the day as YYYYMMDD (0 unknown).
-#[derive(Drop)]
+#[derive(Clone, Copy)]
 pub struct Entry {
     pub first: u32,
     pub verdict: u32,

@@ -7,5 +7,6 @@
 //     end = detail::put_detail(out, end, k, a, b, c, d);         // detail row k, from 0, with its four intervals
 //
 // For whoever changes it: what is put is specs/Text.antt, line by line; the digits of every number come from `digits::put_digits` alone.
+#![tactic(auto)]
 pub mod detail;
 pub mod rows;

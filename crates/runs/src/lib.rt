@@ -8,6 +8,7 @@
 //
 // For whoever changes it: what a run owes is specs/Run.antt, which goes by the plain loader's scan; a run that ends early is slower and still right.
 // The loops over rows are where most of a load's time goes (docs/SPEED.md).
+#![tactic(auto)]
 ghost use Rattle.std.specs.Prelude.{◌≡◌};
 ghost use Rattle.runs.specs.Run.{passed_rows, passed_lines, stood_at, Asks, Passes};
 
@@ -19,7 +20,7 @@ pub mod rows;
 mod skip;
 
 // The unit, the line count, the place behind the last line of the run, and whether the day's last row is in.
-#[derive(Drop)]
+#[derive(Clone, Copy)]
 pub struct Passed {
     pub unit: Unit,
     pub lines: u32,

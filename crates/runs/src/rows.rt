@@ -15,7 +15,7 @@ use lines::line::{ends_with_cr, without_cr};
 use records::{HEADER_ROWS, MAX_DETAILS, Progress, RowRead, put_intervals, row_header};
 
 // The record, the line count, the place behind the last line that was read, and whether the day's last row is in.
-#[derive(Drop)]
+#[derive(Clone, Copy)]
 pub struct RowsRead {
     pub progress: Progress,
     pub lines: u32,
@@ -24,7 +24,7 @@ pub struct RowsRead {
 }
 
 // A line that was taken: how many bytes it has, its LF included, and how many rows it is, none for an empty line. Size 0, where it is for the plain way.
-#[derive(Drop)]
+#[derive(Clone, Copy)]
 pub struct Taken {
     pub size: usize,
     pub rows: u32,

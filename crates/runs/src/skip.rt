@@ -8,7 +8,7 @@ use lines::end::line_end;
 use lines::line::{Kind, kind_of, without_cr};
 
 // The line count, and the place behind the last line that was skipped.
-#[derive(Drop)]
+#[derive(Clone, Copy)]
 pub struct Skipped {
     pub lines: u32,
     pub at: usize,

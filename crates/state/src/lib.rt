@@ -8,6 +8,7 @@
 //
 // For whoever changes it: `number_for` gets the registry as its index and the table, report and piece as their lengths, so that the calls that hold
 // these have nothing to say of refusals themselves.
+#![tactic(auto)]
 ghost use Rattle.std.specs.Prelude.{◌≡◌, ◌+◌, ◌≤◌, length};
 ghost use Rattle.lines.specs.Line.{kept_limit};
 ghost use Rattle.text.specs.Identifier.{esi_id_size, duns_size};
@@ -28,7 +29,7 @@ pub const BYTE_LIMIT: usize = 200_000_000;
 
 // What is kept between calls: the bytes of a line whose LF has not come, the bytes taken, the line count, and the unit with its ESI ID, Sender and the
 // words of its cell.
-#[derive(Drop)]
+#[derive(Clone, Copy)]
 pub struct State {
     pub kept: [u8; KEPT_LIMIT],
     pub held: usize,

@@ -6,6 +6,7 @@
 //
 // For whoever changes it: the rules are `step_kind` of plain/specs/Loader.antt, and `step` here goes by the same cases; that a line's two parts are all that
 // it does is `step-parts` of proofs/Kept.antt.
+#![tactic(auto)]
 ghost use Rattle.std.specs.Prelude.{◌≡◌, ℕ, suc, ◌≤◌, length};
 ghost use Rattle.text.specs.Byte.{Bytes};
 ghost use Rattle.text.specs.Identifier.{esi_id_size};
@@ -28,7 +29,7 @@ use report::Entry;
 use report::verdict::{LOADED, SHORT, STRAY, SURPLUS};
 
 // None; a record that takes rows, with its first line; a record that waits, with its first line and its last row's; or one that skips.
-#[derive(Drop)]
+#[derive(Clone, Copy)]
 pub enum Unit {
     None,
     Takes(u32, Progress),
@@ -37,21 +38,21 @@ pub enum Unit {
 }
 
 // The entry of a verdict that fell, if one did.
-#[derive(Drop)]
+#[derive(Clone, Copy)]
 pub enum Said {
     Nothing,
     Verdict(Entry),
 }
 
 // What a line leaves as it is read: the unit, and the verdict that fell, if one did.
-#[derive(Drop)]
+#[derive(Clone, Copy)]
 pub struct Stepped {
     pub unit: Unit,
     pub said: Said,
 }
 
 // What a line leaves in all: the unit, and the verdicts of the unit that it ended and of its own, in this order.
-#[derive(Drop)]
+#[derive(Clone, Copy)]
 pub struct LineRead {
     pub unit: Unit,
     pub first: Said,

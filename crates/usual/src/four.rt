@@ -21,7 +21,7 @@ const STAMP_AT: usize = 9;
 const STAMP_END: usize = 23;
 
 // What a usual row four gives; any other line is for `headers`.
-#[derive(Drop)]
+#[derive(Clone, Copy)]
 pub enum UsualFour {
     Is(Stamp),
     Other,

@@ -40,7 +40,7 @@ const USUAL_START: [u8; 7] = *b"000000,";
 const USUAL_STOP: [u8; 10] = *b"235900,Y,N";
 
 // What a usual row one gives; any other line is for `headers`.
-#[derive(Drop)]
+#[derive(Clone, Copy)]
 pub enum UsualOne {
     Is(Place, Channel, u32),
     Other,

@@ -1,5 +1,6 @@
 // Replays the cases of data/: each is a cut, a registry and a file, which is fed in pieces of that many bytes and finished, with a cleared table of
 // 64 cells. It prints what lseload prints, and then each cell that holds a read: its number, words 0 to 6, and the sum of its watt hours.
+#![tactic(auto)]
 ghost use Rattle.std.specs.Prelude.{◌≡◌, ◌*◌, ◌<◌, ◌≤◌, length};
 ghost use Rattle.cell.specs.Layout.{width};
 

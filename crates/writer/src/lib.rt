@@ -5,6 +5,7 @@
 //
 // For whoever changes it: the record's rows are specs/Record.antt, over rowtext/specs/Text.antt. It is put together in bytes of the call's own, so
 // its length is known before a byte of the output changes.
+#![tactic(auto)]
 ghost use Rattle.std.specs.Prelude.{◌≡◌, true, ◌<◌, ◌≤◌, ◌*◌, ◌+◌, length, get_or};
 ghost use Rattle.report.specs.Outcome.{passed};
 ghost use Rattle.details.specs.Detail.{per_row};
@@ -34,7 +35,7 @@ use text::names::is_descriptor;
 const RECORD_LIMIT: usize = 2000;
 
 // The number returned, and the length of the record of a call that is done.
-#[derive(Drop)]
+#[derive(Clone, Copy)]
 pub struct Written {
     pub number: u32,
     pub length: usize,

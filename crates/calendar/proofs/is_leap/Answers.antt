@@ -1,0 +1,7 @@
+-- `calendar::is_leap` meets its contract: the code is the definition.
+-- Assumes nothing.
+use mathlib.Core.Path.{refl}
+use Rattle.calendar.proofs.is_leap.Goals as goal
+
+pub returns : goal.returns
+returns c = refl
