@@ -2,13 +2,13 @@
 -- Assumes nothing.
 use mathlib.Core.Path.{◌≡◌, sym, ap, ◌∙◌}
 use mathlib.Core.List.{[], ◌∷◌, ◌++◌}
-use mathlib.Core.Bool.{Bool, true, false, not, ◌&&◌}
+use mathlib.Core.Bool.{Bool, true, ◌&&◌}
 use Prim.Native.Nat.{ℕ, suc, ◌+◌, ◌-◌, ◌<◌, ◌≤◌}
 use native.Mathlib.Omega.{arith}
 use lib.Dec.{eqb}
 use lib.ListN.{length, drop, get_or}
 use lib.Seq.{take-add, drop-drop, drop-cons}
-use borrow.Author.Tests.{eqb-true, ne_eqb, not-false}
+use borrow.Author.Tests.{eqb-true, ne_eqb}
 use Rattle.text.specs.Byte.{Bytes, every}
 use Rattle.text.proofs.Truth.{and_left, and_right}
 use Rattle.text.proofs.Class.{every_append}
@@ -39,8 +39,8 @@ module _ (piece : Bytes) (at e : ℕ) (n : NoneTo piece at e) where
       }
 
   -- a stride without one
-  pub stride_none : (end : ℕ) (r : Bool) → e ≤ end → end ≤ length piece → r ≡ every not_lf (between e end piece) → not r ≡ false → NoneTo piece at end
-  stride_none end r h g is t = none_more end h g (sym is ∙ not-false r t)
+  pub stride_none : (end : ℕ) (r : Bool) → e ≤ end → end ≤ length piece → r ≡ every not_lf (between e end piece) → r ≡ true → NoneTo piece at end
+  stride_none end r h g is t = none_more end h g (sym is ∙ t)
 
   -- one other byte
   pub none-next : e < length piece → (get_or piece e 0 ≡ LF → ⊥) → NoneTo piece at (e + 1)

@@ -4,7 +4,7 @@ use Rattle.std.specs.Prelude.{◌≡◌, List, [], not, ℕ, ◌-◌, ◌≤◌,
 use Rattle.text.specs.Byte.{Bytes, equals}
 use Rattle.text.specs.Field.{cut, first_field}
 use Rattle.lines.specs.Line.{Line, is_long, line_limit}
-use Rattle.report.specs.Outcome.{Outcome, passed, require, ◌>>=◌, ◌>>◌}
+use Rattle.report.specs.Outcome.{Outcome, passed, require, ◌>>◌}
 use Rattle.report.specs.Verdict.{long, wrong_code, wrong_count}
 
 -- field n of a row, counted from 1 as document 01 does
