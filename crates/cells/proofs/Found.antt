@@ -24,6 +24,7 @@ use Rattle.reads.specs.Sound.{is_sound}
 use Rattle.report.specs.Refusal.{done, bad_registry, short_table, no_cell, empty_cell, unsound_cell}
 use Rattle.cells.specs.Number.{channels, cell_count, cell_number}
 use Rattle.cells.specs.Address.{meter_count, cells_of, is_address}
+use Rattle.cells.proofs.Stages.{sound_stages}
 use Rattle.cells.specs.Sound.{for_table, cell_for, held_cell, day_intervals, sound_cell, cell_says, CellIs}
 use Rattle.cells.specs.declared.CellFound.{CellFound}
 use Rattle.cells.specs.declared.CellFound.TheVariants.{At, Refused}
@@ -164,8 +165,7 @@ module _ (reg : Bytes) (table : Words) (m c d : ℕ) (r : CellFound) (number : �
   held-refused x = still_refused table (cell_for reg table m c d) r x _ number h
 
   pub sound-refused : CellIs r table (held_cell reg table m c d) → CellIs (Refused number) table (sound_cell reg table m c d)
-  unfolding sound_cell
-  sound-refused x = still_refused table (held_cell reg table m c d) r x _ number h
+  sound-refused x = rw (sound_stages reg table m c d) (still_refused table (held_cell reg table m c d) r x _ number h)
 
 module _ (reg : Bytes) (table : Words) (m c d : ℕ) (r : CellFound) (start : ℕ) (h : r ≡ At start) where
   module _ (x : CellIs r table (cell_for reg table m c d)) (none : Bool) (e : none ≡ holds_none (take (start + width - start) (drop start table))) where
@@ -180,12 +180,10 @@ module _ (reg : Bytes) (table : Words) (m c d : ℕ) (r : CellFound) (start : �
   module _ (x : CellIs r table (held_cell reg table m c d)) (n : ℕ) (en : n ≡ day_intervals reg d) (sound : Bool)
       (e : sound ≡ is_sound n (take (start + width - start) (drop start table))) where
     pub sound_not : not sound ≡ true → CellIs (Refused unsound_cell) table (sound_cell reg table m c d)
-    unfolding sound_cell
-    sound_not t = cell_fails table (held_cell reg table m c d) r x _ start h unsound_cell (rw (← lent table start, ← en, ← e, not-true sound t))
+    sound_not t = rw (sound_stages reg table m c d) (cell_fails table (held_cell reg table m c d) r x _ start h unsound_cell (rw (← lent table start, ← en, ← e, not-true sound t)))
 
     pub sound_so : not sound ≡ false → CellIs (At start) table (sound_cell reg table m c d)
-    unfolding sound_cell
-    sound_so t = cell-passes table (held_cell reg table m c d) r x _ start h (rw (← lent table start, ← en, ← e, not-false sound t))
+    sound_so t = rw (sound_stages reg table m c d) (cell-passes table (held_cell reg table m c d) r x _ start h (rw (← lent table start, ← en, ← e, not-false sound t)))
 
 pub day-few : (date : ℕ) → intervals_on date ≤ max_intervals
 day-few date = ⊎_elim (λ x. omega arith) (λ y. ⊎_elim (λ x. omega arith) (λ x. omega arith) y) (intervals-three date)

@@ -1,6 +1,6 @@
 -- What a cell that is found is: the registry and the table are right, the address is a cell's, and the cell holds a sound read.
 -- Assumes nothing.
-use mathlib.Core.Path.{◌≡◌, ap, ◌∙◌}
+use mathlib.Core.Path.{◌≡◌, ap, sym, ◌∙◌}
 use mathlib.Core.Bool.{true, false, not, ◌&&◌}
 use Prim.Native.Nat.{ℕ, ◌+◌, ◌<◌, ◌≤◌}
 use native.Mathlib.Omega.{arith}
@@ -24,6 +24,7 @@ use Rattle.report.specs.Refusal.{bad_registry, short_table, no_cell, empty_cell,
 use Rattle.cells.specs.Number.{channels}
 use Rattle.cells.specs.Address.{meter_count, day_count, cells_of, table_size, is_address, cell_of, Among}
 use Rattle.cells.specs.Sound.{for_table, cell_for, held_cell, day_intervals, sound_cell}
+use Rattle.cells.proofs.Stages.{sound_stages}
 use Rattle.cells.proofs.Found.{day-few}
 
 pub record FoundCell (reg : Bytes) (table : Words) (m c d : ℕ) (w : Words) : Type 0 where
@@ -49,11 +50,11 @@ address-among reg m c d h =
     }
 
 pub found-cell : (reg : Bytes) (table : Words) (m c d : ℕ) (w : Words) → sound_cell reg table m c d ≡ passed w → FoundCell reg table m c d w
-unfolding sound_cell held_cell cell_for for_table intervals_of
+unfolding held_cell cell_for for_table intervals_of
 found-cell reg table m c d w e =
     let u : Words = cell_at table (cell_of reg m c d) in
     let n = day_intervals reg d in
-    let held = bind_passed (held_cell reg table m c d) w _ e in
+    let held = bind_passed (held_cell reg table m c d) w _ (sym (sound_stages reg table m c d) ∙ e) in
     let sound = then_passed (require (is_sound n held.0) unsound_cell) w _ held.2 in
     let found = bind_passed (cell_for reg table m c d) held.0 _ held.1 in
     let filled = then_passed (require (not (holds_none found.0)) empty_cell) held.0 _ found.2 in

@@ -1,4 +1,4 @@
--- The cell at an address, in the stages that calls ask for, or the refusal. Document 01, "What a call returns": 2, 3, 6, 7, 8, tested in this order.
+-- The cell at an address, sound or in the stages that calls ask for, or the refusal. Document 01, "What a call returns": 2, 3, 6, 7, 8, tested in this order.
 -- Assumes nothing.
 use Rattle.std.specs.Prelude.{◌≡◌, Bool, not, ℕ, ◌+◌, ◌*◌, ◌≤◌, ltb, length, take, drop}
 use Rattle.calendar.specs.Day.{last_day}
@@ -11,7 +11,7 @@ use Rattle.cell.specs.Layout.{Words, width}
 use Rattle.reads.specs.Load.{cell_at, holds_none}
 use Rattle.reads.specs.Sound.{is_sound}
 use Rattle.report.specs.Refusal.{bad_registry, short_table, no_cell, empty_cell, unsound_cell}
-use Rattle.cells.specs.Address.{meter_count, cells_of, is_address, cell_of, Sizes}
+use Rattle.cells.specs.Address.{meter_count, cells_of, table_size, is_address, cell_of, Sizes}
 use Rattle.cells.specs.declared.CellFound.{CellFound}
 use Rattle.cells.specs.declared.CellFound.TheVariants.{At, Refused}
 
@@ -31,20 +31,27 @@ cell_for reg table m c d = do
 -- 7: and it holds a read
 unfoldable pub held_cell : Bytes → Words → ℕ → ℕ → ℕ → Outcome Words
 held_cell reg table m c d = do
-  w ← cell_for reg table m c d
-  require (not (holds_none w)) empty_cell
-  passed w
+  u ← cell_for reg table m c d
+  require (not (holds_none u)) empty_cell
+  passed u
 
 -- how many intervals a window day has
 abbrev pub day_intervals : Bytes → ℕ → ℕ
 day_intervals reg d = intervals_of ((window_is reg).first + d)
 
--- 8: and the read is sound for its window day
+-- 7 and 8: the words of a cell that holds a sound read for its window day
+unfoldable pub sound_words : ℕ → Words → Outcome Words
+sound_words n w = do
+  require (not (holds_none w)) empty_cell
+  require (is_sound n w) unsound_cell
+  passed w
+
 unfoldable pub sound_cell : Bytes → Words → ℕ → ℕ → ℕ → Outcome Words
 sound_cell reg table m c d = do
-  w ← held_cell reg table m c d
-  require (is_sound (day_intervals reg d) w) unsound_cell
-  passed w
+  require (is_registry reg) bad_registry
+  require (not (ltb (length table) (table_size reg))) short_table
+  require (is_address reg m c d) no_cell
+  sound_words (day_intervals reg d) (cell_at table (cell_of reg m c d))
 
 -- what an index tells of its registry, where a cell is looked for
 pub record Knows (reg : Bytes) (legal : Bool) (meters : ℕ) (window : Window) : Type 0 where

@@ -5,6 +5,7 @@
 //
 // For whoever changes it: a line is `line_of` of specs/Listing.antt. Nothing here writes anywhere but into the lent bytes.
 #![tactic(auto)]
+
 ghost use Rattle.std.specs.Prelude.{◌+◌, ◌*◌, ◌≤◌, length};
 ghost use Rattle.digits.specs.Put.{Put};
 ghost use Rattle.report.specs.Words.{per_entry};

@@ -14,7 +14,6 @@ use Rattle.report.specs.Verdict.{long}
 use Rattle.cell.specs.Layout.{Words, width}
 use Rattle.report.specs.Refusal.{bad_state, bad_registry, short_table, short_report, too_many_bytes}
 use Rattle.report.specs.Outcome.{require, number_of, ◌>>◌}
-use Rattle.cells.specs.Sound.{for_table}
 use Rattle.plain.specs.Call.{byte_limit, room_for, Asked, feed, finish, Call, piece_of, Plain, fresh, Done, answer_of, table_after, refused_by, refused_at, done_call, by_number, plain_call, plain_answers, plain_table}
 use Rattle.plain.specs.Claim.{calls_of, answers_of, last_table}
 use Rattle.plain.specs.Loader.{OpenUnit, no_unit, takes_rows, waits, skips, Scan, scan, entries_of, loads_of, scan_to, scan_events}
@@ -49,7 +48,7 @@ module _ (R : Rules) (L : Lawful R) where
     pub few : taken + length (piece_of c.asked) ≤ byte_limit
 
   pub allowed : (size taken : ℕ) (c : Call) → refused_by R size taken c ≡ 0 → Allowed size taken c
-  unfolding refused_at for_table
+  unfolding refused_at
   allowed size taken c h = go R.sound refl (ltb size (R.cells * width)) refl (ltb c.room (room_for (length (piece_of c.asked)))) refl (ltb byte_limit (taken + length (piece_of c.asked))) refl
     where
       go : (p : Bool) → R.sound ≡ p → (q : Bool) → ltb size (R.cells * width) ≡ q
@@ -63,7 +62,7 @@ module _ (R : Rules) (L : Lawful R) where
           record { sound = ep; long = ltb-false _ _ eq; room = ltb-false _ _ er; few = ltb-false _ _ es }
 
   pub not_refused : (size taken : ℕ) (c : Call) → Allowed size taken c → refused_by R size taken c ≡ 0
-  unfolding refused_at for_table
+  unfolding refused_at
   not_refused size taken c a =
       rw (a.sound, le-ltb size (R.cells * width) a.long, le-ltb c.room (room_for (length (piece_of c.asked))) a.room, le-ltb byte_limit (taken + length (piece_of c.asked)) a.few)
 
@@ -188,12 +187,12 @@ module _ (R : Rules) (L : Lawful R) where
 
   -- refusal 1 is none of what the plain loader answers
   refused_not_bad : (size taken : ℕ) (c : Call) → ¬ (refused_by R size taken c ≡ bad_state)
-  unfolding refused_at for_table
+  unfolding refused_at
   refused_not_bad size taken c =
       go R.sound (ltb size (R.cells * width)) (ltb c.room (room_for (length (piece_of c.asked)))) (ltb byte_limit (taken + length (piece_of c.asked)))
     where
       go : (p q r s : Bool)
-          → ¬ (number_of ((require p bad_registry >> require (not q) short_table) >> (require (not r) short_report >> require (not s) too_many_bytes)) ≡ bad_state)
+          → ¬ (cond (not p) bad_registry (cond q short_table (cond r short_report (cond s too_many_bytes done))) ≡ bad_state)
       go false q r s h = omega (arith, h)
       go true true r s h = omega (arith, h)
       go true false true s h = omega (arith, h)

@@ -38,7 +38,6 @@ use Rattle.plain.specs.Rows.{begins, first_row, with_row, checked, after_detail,
 use Rattle.plain.specs.Table.{load_one, load_all}
 use Rattle.plain.specs.Loader.{close, settle, entries_of, loads_of, step_kind, step_line}
 use Rattle.plain.specs.Loader.{byte_to, byte_events, scan_to, scan_events, end_at, end_events}
-use Rattle.cells.specs.Sound.{for_table}
 use Rattle.plain.specs.Call.{fresh, refused_at, done_call, by_number, plain_call, plain_answers, plain_table}
 use Rattle.plain.specs.Claim.{joined, one_file, alone, alone_table}
 
@@ -90,7 +89,7 @@ pub record Samples : Type 0 where
   pub surplus-report : alone (rules_of one_meter) empty_table (record_text 25) ≡ entry_of 1 22 30 1 20080510 ∷ []
 
 pub samples : Samples
-unfolding alone alone_table joined plain_answers plain_table plain_call by_number refused_at for_table done_call
+unfolding alone alone_table joined plain_answers plain_table plain_call by_number refused_at done_call
     scan_events scan_to byte_events byte_to step_line step_kind end_events end_at close settle entries_of loads_of load_all load_one
     rules_of first_row begins next_row due_row detail_row after_detail with_row checked
     ended_line drop_cr ends_with_cr is_long kind_of fields_of cut is_empty equals starts_with every number_from digits_of leading behind is_name is_duns

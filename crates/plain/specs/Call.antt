@@ -1,11 +1,9 @@
 -- Calls: what the plain loader answers to each of a list of them. Document 01, "What a call returns" and "The plain loader".
 -- Assumes nothing.
-use Rattle.std.specs.Prelude.{List, [], ◌∷◌, ◌++◌, not, ℕ, zero, suc, ◌+◌, ◌/◌, ltb, length}
+use Rattle.std.specs.Prelude.{List, [], ◌∷◌, ◌++◌, cond, not, ℕ, zero, suc, ◌+◌, ◌*◌, ◌/◌, ltb, length}
 use Rattle.text.specs.Byte.{Bytes}
-use Rattle.cell.specs.Layout.{Words}
-use Rattle.report.specs.Refusal.{done, short_report, too_many_bytes}
-use Rattle.report.specs.Outcome.{require, number_of, ◌>>=◌, ◌>>◌}
-use Rattle.cells.specs.Sound.{for_table}
+use Rattle.cell.specs.Layout.{Words, width}
+use Rattle.report.specs.Refusal.{done, bad_registry, short_table, short_report, too_many_bytes}
 use Rattle.report.specs.declared.Entry.{Entry}
 use Rattle.plain.specs.Rows.{Rules}
 use Rattle.plain.specs.Table.{load_all}
@@ -67,10 +65,10 @@ module _ (R : Rules) where
   -- piece, so that no 5 can come up.
   unfoldable pub refused_at : ℕ → ℕ → ℕ → ℕ → ℕ
   refused_at size taken room n =
-      number_of do
-        for_table R.sound R.cells size
-        require (not (ltb room (room_for n))) short_report
-        require (not (ltb byte_limit (taken + n))) too_many_bytes
+      cond (not R.sound) bad_registry
+      (cond (ltb size (R.cells * width)) short_table
+      (cond (ltb room (room_for n)) short_report
+      (cond (ltb byte_limit (taken + n)) too_many_bytes done)))
 
   abbrev pub refused_by : ℕ → ℕ → Call → ℕ
   refused_by size taken c = refused_at size taken c.room (length (piece_of c.asked))

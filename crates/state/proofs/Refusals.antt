@@ -42,31 +42,45 @@ overfull-says s x e =
     or_right (ltb kept_limit s.held) (ltb byte_limit s.taken) (ltb max_details x) (ltb s.taken s.lines)
     ∙ rw (e s.id s.sender s.words)
 
+-- 2 and 3 are the first two of the plain loader's tests
+first_two : (p q : Bool) (number rest : ℕ) → number ≡ number_of (require p bad_registry >> require (not q) short_table) → ¬ (number ≡ done)
+    → number ≡ cond (not p) bad_registry (cond q short_table rest)
+first_two false q number rest e some = e
+first_two true true number rest e some = e
+first_two true false number rest e some = absurd (some e)
+
+none_of-two : (p q : Bool) (number : ℕ) → number ≡ number_of (require p bad_registry >> require (not q) short_table) → number ≡ done
+    → (p ≡ true) × (q ≡ false)
+none_of-two false q number e passes = absurd (omega (arith, e, passes))
+none_of-two true true number e passes = absurd (omega (arith, e, passes))
+none_of-two true false number e passes = (refl, refl)
+
 module _ (reg : Bytes) (sound : Bool) (meters days size taken room n number : ℕ) (s : sound ≡ is_registry reg) (m : meters ≡ meter_count reg)
     (d : days ≡ day_count reg) (is : number ≡ number_of (for_table sound (cell_count meters days) size)) where
-  tested : for_table (is_registry reg) (cells_of reg) size ≡ for_table sound (cell_count meters days) size
-  tested = rw (← s, ← m, ← d)
+  tested : number ≡ number_of (for_table (is_registry reg) (cells_of reg) size)
+  tested = rw (← s, ← m, ← d) is
 
   pub refused-table : ¬ (number ≡ done) → number ≡ refused_at (rules_of reg) size taken room n
-  unfolding refused_at rules_of
-  refused-table some = rw (tested, for_table-refused sound (cell_count meters days) size number is some)
+  unfolding refused_at rules_of for_table
+  refused-table some = first_two (is_registry reg) (ltb size (cells_of reg * width)) number _ tested some
 
   module _ (passes : number ≡ done) where
-    right : for_table (is_registry reg) (cells_of reg) size ≡ passed tt
-    right = tested ∙ for_table-done sound (cell_count meters days) size number is passes
+    right : (is_registry reg ≡ true) × (ltb size (cells_of reg * width) ≡ false)
+    unfolding for_table
+    right = none_of-two (is_registry reg) (ltb size (cells_of reg * width)) number tested passes
 
     pub refused_4 : room < room_for n → short_report ≡ refused_at (rules_of reg) size taken room n
     unfolding refused_at rules_of
-    refused_4 r = rw (right, lt-ltb room (room_for n) r)
+    refused_4 r = rw (right.0, right.1, lt-ltb room (room_for n) r)
 
     module _ (r : room_for n ≤ room) (t : taken ≤ byte_limit) where
       pub refused_5 : byte_limit - taken < n → too_many_bytes ≡ refused_at (rules_of reg) size taken room n
       unfolding refused_at rules_of
-      refused_5 b = rw (right, le-ltb room (room_for n) r, lt-ltb byte_limit (taken + n) (omega arith))
+      refused_5 b = rw (right.0, right.1, le-ltb room (room_for n) r, lt-ltb byte_limit (taken + n) (omega arith))
 
       pub refused_none : n ≤ byte_limit - taken → done ≡ refused_at (rules_of reg) size taken room n
       unfolding refused_at rules_of
-      refused_none b = rw (right, le-ltb room (room_for n) r, le-ltb byte_limit (taken + n) (omega arith))
+      refused_none b = rw (right.0, right.1, le-ltb room (room_for n) r, le-ltb byte_limit (taken + n) (omega arith))
 
 -- the whole number
 module _ (s : State) (reg : Bytes) (size room n : ℕ) (full : Bool) (is : full ≡ overfull (view_of s)) where

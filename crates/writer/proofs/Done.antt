@@ -17,6 +17,7 @@ use Rattle.reads.specs.Load.{holds_none}
 use Rattle.reads.specs.Sound.{is_sound}
 use Rattle.report.specs.Refusal.{done, bad_registry, short_table, no_cell, empty_cell, unsound_cell, bad_descriptor, short_output}
 use Rattle.cells.specs.Address.{cells_of, table_size, is_address}
+use Rattle.cells.proofs.Stages.{sound_stages}
 use Rattle.cells.specs.Sound.{for_table, cell_for, held_cell, day_intervals, sound_cell}
 use Rattle.writer.specs.Write.{written_record, fitting, writes, answer, output_with}
 
@@ -53,13 +54,14 @@ module _ (reg : Bytes) (table : Words) (m c d : ℕ) (descriptor output : Bytes)
   table_not = require_not (is_registry reg) bad_registry _ (omega arith) (test_not (not (ltb (length table) (table_size reg))) short_table (omega arith))
 
   cell_not : NotDone (sound_cell reg table m c d)
-  unfolding sound_cell held_cell cell_for
+  unfolding held_cell cell_for
   cell_not =
-      bind_not _ _
+      rw (sound_stages reg table m c d)
+      (bind_not _ _
       (bind_not _ _
       (then_not _ _ table_not (require_not (is_address reg m c d) no_cell _ (omega arith) (passed_not _)))
       (λ w. require_not (not (holds_none w)) empty_cell _ (omega arith) (passed_not w)))
-      (λ w. require_not (is_sound (day_intervals reg d) w) unsound_cell _ (omega arith) (passed_not w))
+      (λ w. require_not (is_sound (day_intervals reg d) w) unsound_cell _ (omega arith) (passed_not w)))
 
   writes_not : NotDone (writes reg table m c d descriptor output)
   unfolding writes written_record fitting
