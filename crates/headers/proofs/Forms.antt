@@ -10,7 +10,7 @@ use native.Mathlib.Nat.{le_of_eq}
 use lib.Dec.{eqb, leb}
 use lib.ListN.{length, drop, get_or, length-drop, drop_of_length-le}
 use lib.Seq.{drop-cons, drop-drop}
-use borrow.Author.Tests.{leb-true, not-true, not-false}
+use borrow.Author.Tests.{leb-true}
 use Rattle.text.specs.Byte.{Bytes, ascii, is_digit, every, equals, is_empty}
 use Rattle.text.specs.Field.{cut, first_field, after_field}
 use Rattle.text.specs.Number.{number, leading, behind, Digits}
@@ -28,26 +28,26 @@ use Rattle.headers.specs.Two.{decimal_parts, is_decimal, up_to_digits, is_unit_c
 
 -- a test of the number that n digits at most write; r says whether they are digits
 module _ (f : Bytes) (n : ℕ) (r : Bool) (er : r ≡ up_to_digits n f) where
-  pub digits_no : (t : Bool) → not r ≡ true → false ≡ (up_to_digits n f && t)
-  digits_no t h = rw (← er, not-true r h)
+  pub digits_no : (t : Bool) → r ≡ false → false ≡ (up_to_digits n f && t)
+  digits_no t h = rw (← er, h)
 
-  pub digits_yes : (t : Bool) → not r ≡ false → t ≡ (up_to_digits n f && t)
-  digits_yes t h = rw (← er, not-false r h)
+  pub digits_yes : (t : Bool) → r ≡ true → t ≡ (up_to_digits n f && t)
+  digits_yes t h = rw (← er, h)
 
-  pub digits-few : not r ≡ false → n ≤ 9 → Digits 9 f
+  pub digits-few : r ≡ true → n ≤ 9 → Digits 9 f
   unfolding up_to_digits
   digits-few h g =
-      let all : up_to_digits n f ≡ true = sym er ∙ not-false r h in
+      let all : up_to_digits n f ≡ true = sym er ∙ h in
       let two : (leb 1 (length f) && leb (length f) n) ≡ true = and_left (leb 1 (length f) && leb (length f) n) (every is_digit f) all in
       record {
         short = omega (arith, leb-true (length f) n (and_right (leb 1 (length f)) (leb (length f) n) two));
         clean = and_right (leb 1 (length f) && leb (length f) n) (every is_digit f) all;
       }
 
-pub unit-right : (f : Bytes) (r : Bool) (m : ℕ) → r ≡ up_to_digits 4 f → not r ≡ false → m ≡ number f → not (eqb m 0) ≡ is_unit_code f
+pub unit-right : (f : Bytes) (r : Bool) (m : ℕ) → r ≡ up_to_digits 4 f → r ≡ true → m ≡ number f → not (eqb m 0) ≡ is_unit_code f
 unit-right f r m er h e = rw e (digits_yes f 4 r er (not (eqb (number f) 0)) h)
 
-pub zone_right : (f : Bytes) (r : Bool) (m : ℕ) → r ≡ up_to_digits 2 f → not r ≡ false → m ≡ number f → leb m 47 ≡ is_zone_count f
+pub zone_right : (f : Bytes) (r : Bool) (m : ℕ) → r ≡ up_to_digits 2 f → r ≡ true → m ≡ number f → leb m 47 ≡ is_zone_count f
 zone_right f r m er h e = rw e (digits_yes f 2 r er (leb (number f) 47) h)
 
 -- a decimal
@@ -131,13 +131,13 @@ module _ (line : Bytes) (k at : ℕ) (long : length (cut line) ≡ 14) (so_far :
     there = next_field (cut line) k rest (here h ∙ ap cut (sym er)) ∙ rw ef
 
     module _ (p : ℕ) (ep : p ≡ get_or row_two_forms k 0) (r : Bool) (e : r ≡ fits_form p f) where
-      pub walk_ends : not r ≡ true → false ≡ fit_all row_two_forms (cut line)
+      pub walk_ends : r ≡ false → false ≡ fit_all row_two_forms (cut line)
       unfolding fit_all
-      walk_ends t = sym (so_far ∙ rw (next-form k h, there, ← ep, ← e, not-true r t))
+      walk_ends t = sym (so_far ∙ rw (next-form k h, there, ← ep, ← e, t))
 
-      pub walk_on : not r ≡ false → fit_all row_two_forms (cut line) ≡ fit_all (drop (k + 1) row_two_forms) (drop (k + 1) (cut line))
+      pub walk_on : r ≡ true → fit_all row_two_forms (cut line) ≡ fit_all (drop (k + 1) row_two_forms) (drop (k + 1) (cut line))
       unfolding fit_all
-      walk_on t = so_far ∙ rw (next-form k h, there, ← ep, ← e, not-false r t)
+      walk_on t = so_far ∙ rw (next-form k h, there, ← ep, ← e, t)
 
     pub walk_next : k + 1 < 14 → drop (k + 1) (cut line) ≡ cut (drop (at + length f + 1) line)
     walk_next g =

@@ -1,11 +1,11 @@
 -- Times: the reader's answers, and the tests of a day's start and stop.
 -- Assumes nothing.
 use mathlib.Core.Path.{◌≡◌, sym, ◌∙◌}
-use mathlib.Core.Bool.{Bool, true, false, not}
+use mathlib.Core.Bool.{Bool, true, false}
 use Prim.Native.Nat.{ℕ}
 use native.Mathlib.Omega.{arith}
 use lib.ListN.{length, take, drop, length-take, length-drop}
-use borrow.Author.Tests.{eq-eqb, ne_eqb, not-true, not-false}
+use borrow.Author.Tests.{eq-eqb, ne_eqb}
 use Rattle.calendar.specs.Date.{is_date}
 use Rattle.calendar.specs.Clock.{is_clock}
 use Rattle.text.specs.Byte.{Bytes, is_digit, every}
@@ -20,34 +20,34 @@ unfolding time_of is_time
 time_length f h = rw (ne_eqb (length f) time_size h)
 
 module _ (f : Bytes) (long : length f ≡ time_size) (r : Bool) (er : r ≡ every is_digit f) where
-  pub time_digits : not r ≡ true → refused misfit ≡ time_of f
+  pub time_digits : r ≡ false → refused misfit ≡ time_of f
   unfolding time_of is_time
-  time_digits h = rw (eq-eqb (length f) time_size long, ← er, not-true r h)
+  time_digits h = rw (eq-eqb (length f) time_size long, ← er, h)
 
-  module _ (hr : not r ≡ false) where
+  module _ (hr : r ≡ true) where
     pub date_digits : (x : Bytes) → x ≡ take date_size f → Digits 9 x
     date_digits x e = record {
       short = rw e (simp length-take (omega arith));
-      clean = rw e (every_take is_digit date_size f (sym er ∙ not-false r hr));
+      clean = rw e (every_take is_digit date_size f (sym er ∙ hr));
     }
 
     pub clock_digits : (x : Bytes) → x ≡ drop date_size f → Digits 9 x
     clock_digits x e = record {
       short = rw e (simp length-drop (omega arith));
-      clean = rw e (every_drop is_digit date_size f (sym er ∙ not-false r hr));
+      clean = rw e (every_drop is_digit date_size f (sym er ∙ hr));
     }
 
     module _ (x y : Bytes) (date clock : ℕ) (ex : x ≡ take date_size f) (ey : y ≡ drop date_size f) (ed : date ≡ number x) (ec : clock ≡ number y)
         (p : Bool) (ep : p ≡ is_date date) where
-      pub time_date : not p ≡ true → refused misfit ≡ time_of f
+      pub time_date : p ≡ false → refused misfit ≡ time_of f
       unfolding time_of is_time
-      time_date h = rw (eq-eqb (length f) time_size long, ← er, not-false r hr, ← ex, ← ed, ← ep, not-true p h)
+      time_date h = rw (eq-eqb (length f) time_size long, ← er, hr, ← ex, ← ed, ← ep, h)
 
-      module _ (hp : not p ≡ false) (q : Bool) (eq : q ≡ is_clock clock) where
-        pub time_clock : not q ≡ true → refused misfit ≡ time_of f
+      module _ (hp : p ≡ true) (q : Bool) (eq : q ≡ is_clock clock) where
+        pub time_clock : q ≡ false → refused misfit ≡ time_of f
         unfolding time_of is_time
-        time_clock h = rw (eq-eqb (length f) time_size long, ← er, not-false r hr, ← ex, ← ed, ← ep, not-false p hp, ← ey, ← ec, ← eq, not-true q h)
+        time_clock h = rw (eq-eqb (length f) time_size long, ← er, hr, ← ex, ← ed, ← ep, hp, ← ey, ← ec, ← eq, h)
 
-        pub time_at : not q ≡ false → passed (record { date = date; clock = clock }) ≡ time_of f
+        pub time_at : q ≡ true → passed (record { date = date; clock = clock }) ≡ time_of f
         unfolding time_of is_time
-        time_at h = rw (eq-eqb (length f) time_size long, ← er, not-false r hr, ← ex, ← ed, ← ep, not-false p hp, ← ey, ← ec, ← eq, not-false q h)
+        time_at h = rw (eq-eqb (length f) time_size long, ← er, hr, ← ex, ← ed, ← ep, hp, ← ey, ← ec, ← eq, h)

@@ -1,12 +1,11 @@
 -- Row thirty: names with their numbers, and the place of the Sender's.
 -- Assumes nothing.
 use mathlib.Core.Path.{◌≡◌, refl, ap, sym, ◌∙◌}
-use mathlib.Core.Bool.{Bool, true, false, not, ◌&&◌, ◌||◌}
+use mathlib.Core.Bool.{Bool, true, false, ◌&&◌, ◌||◌}
 use Prim.Native.Nat.{ℕ, ◌+◌, ◌-◌, ◌≤◌}
 use native.Mathlib.Omega.{arith}
 use lib.ListN.{length, take, drop}
 use lib.Seq.{drop-drop}
-use borrow.Author.Tests.{not-true, not-false}
 use Rattle.text.specs.Byte.{Bytes, ascii, equals, starts_with}
 use Rattle.text.specs.Field.{cut, first_field, after_field, field_at}
 use Rattle.text.specs.Identifier.{is_duns}
@@ -23,9 +22,9 @@ pub duns-behind : (name f g : Bytes) (a b : Bool) → a ≡ starts_with name f �
 unfolding has_duns
 duns-behind name f g a b ea eg eb = rw (ea, eb, eg)
 
-pub duns-long : (name f : Bytes) (r : Bool) → r ≡ has_duns name f → not r ≡ false → length name ≤ length f
+pub duns-long : (name f : Bytes) (r : Bool) → r ≡ has_duns name f → r ≡ true → length name ≤ length f
 unfolding has_duns
-duns-long name f r e h = starts_long name f (and_left (starts_with name f) (is_duns (behind_name name f)) (sym e ∙ not-false r h))
+duns-long name f r e h = starts_long name f (and_left (starts_with name f) (is_duns (behind_name name f)) (sym e ∙ h))
 
 pub ends-right : (rest receiver rest₂ rep : Bytes) (p q u : Bool) → receiver ≡ first_field rest → rest₂ ≡ after_field rest → rep ≡ first_field rest₂
     → p ≡ equals receiver (ascii "Receiver=183529049") → q ≡ has_duns rep_name rep → u ≡ equals rep rep_name
@@ -56,17 +55,17 @@ module _ (line rest₂ pairs rest₃ mre rest₄ sender rest₅ : Bytes) (due : 
       rw (cut_at 1 line (omega (arith, due.count)), cut_at 2 line (omega (arith, due.count)), cut_at 3 line (omega (arith, due.count)), cut_at 4 line (omega (arith, due.count)), cut_at 5 line (omega (arith, due.count)), ← a2, ← a3, ← a4, ← a5, ← e2, ← e3, ← e4, ← ep, ← eq, ← eu)
       (and_swap p q (has_duns sender_name sender) u)
 
-  pub thirty_others : not (p && q && u) ≡ true → refused misfit ≡ thirty_of (cut line)
+  pub thirty_others : (p && q && u) ≡ false → refused misfit ≡ thirty_of (cut line)
   unfolding thirty_of
-  thirty_others h = rw (tests, not-true (p && q && u) h)
+  thirty_others h = rw (tests, h)
 
-  module _ (hg : not (p && q && u) ≡ false) (s : Bool) (es : s ≡ has_duns sender_name sender) where
-    pub thirty-sender : not s ≡ true → refused misfit ≡ thirty_of (cut line)
+  module _ (hg : (p && q && u) ≡ true) (s : Bool) (es : s ≡ has_duns sender_name sender) where
+    pub thirty-sender : s ≡ false → refused misfit ≡ thirty_of (cut line)
     unfolding thirty_of
-    thirty-sender h = rw (tests, not-false (p && q && u) hg, ← es, not-true s h)
+    thirty-sender h = rw (tests, hg, ← es, h)
 
-    pub thirty-passed : (at : ℕ) → not s ≡ false → StartsAt line at rest₄ → passed (take (length sender - length sender_name) (drop (at + length sender_name) line)) ≡ thirty_of (cut line)
+    pub thirty-passed : (at : ℕ) → s ≡ true → StartsAt line at rest₄ → passed (take (length sender - length sender_name) (drop (at + length sender_name) line)) ≡ thirty_of (cut line)
     unfolding thirty_of
     thirty-passed at h st =
-        rw (tests, not-false (p && q && u) hg, ← es, not-false s h, cut_at 3 line (omega (arith, due.count)), ← a2, ← a3, ← a4, ← e4, ← drop-drop (length sender_name) at line, st.left)
+        rw (tests, hg, ← es, h, cut_at 3 line (omega (arith, due.count)), ← a2, ← a3, ← a4, ← e4, ← drop-drop (length sender_name) at line, st.left)
         (ap (λ x. passed x) (rw e4 (sender-left rest₄)))

@@ -13,6 +13,7 @@
 // `time::stops_day`, a read's stamp is `time::Stamp`, row two's forms are the table in `two`. The stop of a day is read in a second, quick place
 // too, `usual::one`, which looks for the digits of `time::DAY_STOP`: another stop that is taken here and not there is right, and slow.
 #![tactic(auto)]
+
 pub mod four;
 pub mod one;
 pub mod thirty;

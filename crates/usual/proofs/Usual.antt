@@ -2,13 +2,13 @@
 -- Assumes nothing.
 use mathlib.Core.Path.{◌≡◌, refl, ap, sym, ◌∙◌}
 use mathlib.Core.List.{List, [], ◌∷◌, ◌++◌}
-use mathlib.Core.Bool.{Bool, true, false, not, ◌&&◌, ◌||◌}
+use mathlib.Core.Bool.{Bool, true, false, ◌&&◌, ◌||◌}
 use Prim.Native.Nat.{ℕ, ◌+◌, ◌-◌, ◌≤◌, ◌<◌}
 use native.Mathlib.Omega.{arith}
 use lib.Dec.{eqb, leb}
 use lib.ListN.{length, take, drop, get_or, length-drop, take-append-drop}
 use lib.Seq.{drop-drop, length-take-le}
-use borrow.Author.Tests.{eq-eqb, eqb-true, leb-true, le-ltb, not-false}
+use borrow.Author.Tests.{eq-eqb, eqb-true, leb-true, le-ltb}
 use Rattle.calendar.specs.Date.{is_date}
 use Rattle.calendar.specs.Clock.{is_clock}
 use Rattle.text.specs.Byte.{Bytes, ascii, is_digit, is_alnum, is_empty, every, equals, starts_with}
@@ -100,16 +100,16 @@ time_clean f t e =
     and_each (eqb (length f) time_size) (every is_digit f ∷ is_date (date_text f) ∷ is_clock (clock_text f) ∷ []) (require-passed (is_time f) misfit p.0 p.1) 1
 
 module _ (line : Bytes) (size : length line ≡ 25) (p q : Bool) (ep : p ≡ starts_with (ascii "00000004,") line)
-    (eq : q ≡ equals (take (length line - 23) (drop 23 line)) (ascii ",M")) (shaped : not (p && q) ≡ false)
+    (eq : q ≡ equals (take (length line - 23) (drop 23 line)) (ascii ",M")) (shaped : (p && q) ≡ true)
     (a : TimeRead) (ea : time_says a ≡ time_of (take 14 (drop 9 line))) (t : Time) (ha : a ≡ At t) where
   stamp : passed t ≡ time_of (take 14 (drop 9 line))
   stamp = rw ha at ea
 
   four-made : line ≡ ascii "00000004," ++ (take 14 (drop 9 line) ++ ascii ",M")
   four-made =
-      first line _ (sym ep ∙ and_left p q (not-false _ shaped))
+      first line _ (sym ep ∙ and_left p q shaped)
       (part line 9 14
-      (sym (left-whole line 23) ∙ equals_path _ _ (sym eq ∙ and_right p q (not-false _ shaped))))
+      (sym (left-whole line 23) ∙ equals_path _ _ (sym eq ∙ and_right p q shaped)))
 
   four-cut : cut (ascii "00000004," ++ (take 14 (drop 9 line) ++ ascii ",M")) ≡ ascii "00000004" ∷ take 14 (drop 9 line) ∷ ascii "M" ∷ []
   unfolding every

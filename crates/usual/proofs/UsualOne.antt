@@ -2,13 +2,13 @@
 -- Assumes nothing.
 use mathlib.Core.Path.{◌≡◌, refl, ap, sym, ◌∙◌}
 use mathlib.Core.List.{List, [], ◌∷◌, ◌++◌, append_assoc}
-use mathlib.Core.Bool.{Bool, true, false, cond, not, ◌&&◌}
+use mathlib.Core.Bool.{Bool, true, false, cond, ◌&&◌}
 use Prim.Native.Nat.{ℕ, ◌+◌, ◌-◌, ◌*◌, ◌≤◌, ◌<◌}
 use native.Mathlib.Omega.{arith}
 use lib.Dec.{eqb}
 use lib.ListN.{length, take, drop, get_or, length-append, length-drop}
 use lib.Seq.{take_at, drop_at, length-take-le}
-use borrow.Author.Tests.{eq-eqb, lt-ltb, le-leb, not-false}
+use borrow.Author.Tests.{eq-eqb, lt-ltb, le-leb}
 use Rattle.calendar.specs.Date.{is_date}
 use Rattle.calendar.specs.Clock.{is_clock}
 use Rattle.text.specs.Byte.{Bytes, ascii, is_digit, is_alnum, every, equals, starts_with}
@@ -125,10 +125,10 @@ day-length line low = length-take-le 8 (drop 3 (tail_of line)) (simp length-drop
 
 -- the tests of the shape, as the reader joins them
 module _ (line : Bytes) (low : 46 ≤ length line) (p q v w x y : Bool)
-    (shaped : not (p && q && eqb (get_or (tail_of line) 0 0) comma && eqb (get_or (tail_of line) 2 0) comma && v && w && x && y) ≡ false)
+    (shaped : (p && q && eqb (get_or (tail_of line) 0 0) comma && eqb (get_or (tail_of line) 2 0) comma && v && w && x && y) ≡ true)
     (ev : v ≡ every is_digit (day_at line)) where
   each : (k : ℕ) → get_or (p ∷ q ∷ eqb (get_or (tail_of line) 0 0) comma ∷ eqb (get_or (tail_of line) 2 0) comma ∷ v ∷ w ∷ x ∷ y ∷ []) k true ≡ true
-  each = and_each p (q ∷ eqb (get_or (tail_of line) 0 0) comma ∷ eqb (get_or (tail_of line) 2 0) comma ∷ v ∷ w ∷ x ∷ y ∷ []) (not-false _ shaped)
+  each = and_each p (q ∷ eqb (get_or (tail_of line) 0 0) comma ∷ eqb (get_or (tail_of line) 2 0) comma ∷ v ∷ w ∷ x ∷ y ∷ []) shaped
 
   pub usual_digits : Digits 9 (day_at line)
   usual_digits = record { short = omega (arith, day-length line low); clean = sym ev ∙ each 4 }
@@ -156,13 +156,13 @@ module _ (line : Bytes) (low : 46 ≤ length line) (p q v w x y : Bool)
         first line _ (sym ep ∙ each 0)
         (part line 9 (length line - 36 - 9) (rw n (sym (left-whole line (length line - 36)))))
 
-    pub one_usual : (date : ℕ) → date ≡ number (day_at line) → (r : Bool) → r ≡ is_date date → not r ≡ false
+    pub one_usual : (date : ℕ) → date ≡ number (day_at line) → (r : Bool) → r ≡ is_date date → r ≡ true
         → (a : ChannelRead) → channel_says a ≡ channel_of (take 1 (drop 1 (tail_of line))) → (k : Channel) → a ≡ Is k
         → (cr : Bool) → passed (record { esi_id = id_of line; channel = k; day = date }) ≡ row_one (line_of line cr)
     one_usual date ed r er hr a ea k ha cr =
         let ek : passed k ≡ channel_of (take 1 (drop 1 (tail_of line))) = rw ha at ea in
         rw ed
-        (one-made (day_at line) stop (day-length line low) (sym ev ∙ each 4) (rw (← ed, ← er) (not-false r hr)) st line (id_of line) (take 1 (drop 1 (tail_of line)))
+        (one-made (day_at line) stop (day-length line low) (sym ev ∙ each 4) (rw (← ed, ← er) hr) st line (id_of line) (take 1 (drop 1 (tail_of line)))
         (line_made ∙ ap (λ t. ascii "00000001," ++ (id_of line ++ t)) tail-made)
         (id-named line low high (sym eq ∙ each 1)) (sym eq ∙ each 1) k ek cr (omega arith))
 

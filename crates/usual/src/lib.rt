@@ -12,6 +12,7 @@
 // use, as another stop of a day (`one::USUAL_STOP`), let `usual_..` take it too, or such files load more slowly. The tests of a shape are joined and none
 // ends them early: they look at few bytes, and a branch at each would cost more.
 #![tactic(auto)]
+
 pub mod four;
 pub mod one;
 pub mod thirty;

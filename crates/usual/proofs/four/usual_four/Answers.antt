@@ -1,0 +1,7 @@
+-- `usual::four::usual_four` meets its contract.
+-- Assumes nothing.
+use Rattle.usual.proofs.Usual.{four_usual}
+use Rattle.usual.proofs.four.usual_four.Goals as goal
+
+pub returns-in-At : goal.returns-in-At
+returns-in-At c = four_usual _ c.if-line-ne-USUAL_SIZE.false _ _ c.begins.ensures c.same.ensures c.if-not-shaped.false _ c.read_time.ensures _ c.in-At.is

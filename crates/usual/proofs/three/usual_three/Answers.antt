@@ -1,0 +1,7 @@
+-- `usual::three::usual_three` meets its contract.
+-- Assumes nothing.
+use Rattle.usual.proofs.Usual.{three_usual}
+use Rattle.usual.proofs.three.usual_three.Goals as goal
+
+pub returns : goal.returns
+returns c = three_usual _ _ _ c.begins.ensures _ c.behind.ensures c.is_descriptor.ensures
