@@ -2,12 +2,12 @@
 -- Assumes nothing.
 use mathlib.Core.Path.{◌≡◌, refl, ap, sym, ◌∙◌}
 use mathlib.Core.List.{[], ◌∷◌}
-use mathlib.Core.Bool.{Bool, true, false, cond, not, ◌&&◌}
+use mathlib.Core.Bool.{Bool, true, false, cond, ◌&&◌}
 use Prim.Native.Nat.{ℕ, ◌+◌, ◌*◌, ◌<◌, ◌≤◌}
 use native.Mathlib.Omega.{arith}
 use lib.Dec.{leb}
 use lib.ListN.{length, take, drop, get_or, length-take}
-use borrow.Author.Tests.{eq-eqb, ne_eqb, le-leb, lt-leb, not-true, not-false}
+use borrow.Author.Tests.{eq-eqb, ne_eqb, le-leb, lt-leb}
 use Rattle.text.specs.Byte.{Bytes, is_digit, every}
 use Rattle.text.specs.Number.{number, number_from, leading, behind, Digits}
 use Rattle.text.proofs.Left.{left-cons, left-none}
@@ -54,8 +54,8 @@ unfolding is_negative
 not_negative [] h = refl
 not_negative (b ∷ f) h = ne_eqb b 45 h
 
-pub part-digits : (p : Bytes) (r : Bool) → r ≡ every is_digit p → not r ≡ false → length p ≤ part_digits → Digits part_digits p
-part-digits p r e t h = record { short = h; clean = sym e ∙ not-false r t }
+pub part-digits : (p : Bytes) (r : Bool) → r ≡ every is_digit p → r ≡ true → length p ≤ part_digits → Digits part_digits p
+part-digits p r e t h = record { short = h; clean = sym e ∙ t }
 
 pub no_digits : (f p : Bytes) (w : ℕ) → w ≡ length f → p ≡ drop w f → Digits part_digits p
 unfolding every
@@ -99,14 +99,14 @@ module _ (f whole : Bytes) (w : ℕ) (run : w ≡ length (leading f)) (ew : whol
 
     -- a point, and part behind it
     module _ (stops : w ≡ length f → ⊥) (dot : get_or f w 0 ≡ point) (part : Bytes) (ep : part ≡ drop (w + 1) f) (r : Bool) (er : r ≡ every is_digit part) where
-      pub value_unclean : not r ≡ true → refused no_value ≡ value_of f
+      pub value_unclean : r ≡ false → refused no_value ≡ value_of f
       unfolding value_parts
-      value_unclean t = sym (parts plus ∙ rw (left-cons f w (run_stops f w run stops), eq-eqb _ _ dot, ← ep, ← er, not-true r t))
+      value_unclean t = sym (parts plus ∙ rw (left-cons f w (run_stops f w run stops), eq-eqb _ _ dot, ← ep, ← er, t))
 
-      module _ (hr : not r ≡ false) where
+      module _ (hr : r ≡ true) where
         pointed : value_of f ≡ with_point whole part
         unfolding value_parts
-        pointed = parts plus ∙ rw (left-cons f w (run_stops f w run stops), eq-eqb _ _ dot, ← ep, ← er, not-false r hr)
+        pointed = parts plus ∙ rw (left-cons f w (run_stops f w run stops), eq-eqb _ _ dot, ← ep, ← er, hr)
 
         pub value_fine : part_digits < length part → refused too_fine ≡ value_of f
         unfolding with_point

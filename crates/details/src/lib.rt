@@ -7,5 +7,6 @@
 //
 // For whoever changes it: the value rule is specs/Value.antt, and `value::read_value` is its only reader.
 #![tactic(auto)]
+
 pub mod detail;
 pub mod value;

@@ -1,7 +1,6 @@
 -- A whole detail line, interval after interval, and that the row's rule gives the same for it.
 -- Assumes nothing.
-use Rattle.std.proofs.Common.{◌≡◌, ℕ, suc, ◌+◌, ◌*◌, ◌/◌, ◌%◌, ◌<◌, ◌≤◌, Bool, true, false, not, ◌&&◌, eqb, List, [], ◌∷◌, ◌++◌, length, get_or, take, drop, sym, refl, ap, ◌∙◌, append_assoc, append-nil, add-one, arith, length-take, length-take-le, get_or-take, take-suc, take-take, drop-drop, take-add, le-ltb, eq-eqb, eqb-true}
-use borrow.Author.Tests.{not-false}
+use Rattle.std.proofs.Common.{◌≡◌, ℕ, suc, ◌+◌, ◌*◌, ◌/◌, ◌%◌, ◌<◌, ◌≤◌, Bool, true, false, ◌&&◌, eqb, List, [], ◌∷◌, ◌++◌, length, get_or, take, drop, sym, refl, ap, ◌∙◌, append_assoc, append-nil, add-one, arith, length-take, length-take-le, get_or-take, take-suc, take-take, drop-drop, take-add, le-ltb, eq-eqb, eqb-true}
 use Rattle.text.specs.Byte.{Bytes, every, equals, starts_with}
 use Rattle.text.specs.Field.{comma, cut, in_front}
 use Rattle.text.specs.Number.{digits_of}
@@ -118,9 +117,9 @@ pub record LineSoFar (k : ℕ) (t : Bytes) (at : ℕ) (is : List Interval) : Typ
   pub text : take at t ≡ detail_code k ++ comma ∷ rest
   pub gives : Gives rest is
 
-line_first : (k : ℕ) (t : Bytes) (r : Bool) → (r ≡ true → take code_size t ≡ detail_code k ++ comma ∷ []) → not r ≡ false → LineSoFar k t code_size []
+line_first : (k : ℕ) (t : Bytes) (r : Bool) → (r ≡ true → take code_size t ≡ detail_code k ++ comma ∷ []) → r ≡ true → LineSoFar k t code_size []
 unfolding Gives
-line_first k t r h hr = record { rest = []; text = h (not-false r hr); gives = refl }
+line_first k t r h hr = record { rest = []; text = h hr; gives = refl }
 
 line_on : (k : ℕ) (t : Bytes) (at end : ℕ) (is : List Interval) (i : Interval) → LineSoFar k t at is → HasTriple t at i end → LineSoFar k t end (is ++ i ∷ [])
 line_on k t at end is i so_far h =
@@ -236,7 +235,7 @@ module _ (t : Bytes) (full : length t ≡ span_size) (a : Interval) (e : ℕ) (f
         pub within : e''' + 1 < length t
         within = omega (arith, triple_far first, triple_far second, triple_far third, triple_far fourth)
 
-        pub line-done : (k : ℕ) (r : Bool) → (r ≡ true → take code_size t ≡ detail_code k ++ comma ∷ []) → not r ≡ false
+        pub line-done : (k : ℕ) (r : Bool) → (r ≡ true → take code_size t ≡ detail_code k ++ comma ∷ []) → r ≡ true
             → (n : ℕ) → (0 < n → EndsAt t e''' n) → (n ≡ 0 → ⊥) → DetailLine k t (a ∷ b ∷ c ∷ d ∷ []) n
         line-done k r h hr n ends some =
             let line : LineSoFar k t e''' (a ∷ b ∷ c ∷ d ∷ []) =

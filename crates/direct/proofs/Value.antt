@@ -157,7 +157,7 @@ read_by s n d (suc m) whole part e l y g w v =
 
 -- the reader's answer, wherever its guesses n and d point: w has the value's bytes, and a its digits
 module _ (t : Bytes) (at n d : ℕ) (room : at + value_size + tail_size ≤ length t) (r : Bool) (fits : r ≡ true → Layout n d)
-    (hr : not r ≡ false) (w a : ℕ) (here : bytes_of 8 w ≡ take 8 (drop at t)) (line : Aligned n d (bit_xor w (spread 48 8)) a) where
+    (hr : r ≡ true) (w a : ℕ) (here : bytes_of 8 w ≡ take 8 (drop at t)) (line : Aligned n d (bit_xor w (spread 48 8)) a) where
   abbrev s : Bytes
   s = drop at t
 
@@ -171,7 +171,7 @@ module _ (t : Bytes) (at n d : ℕ) (room : at + value_size + tail_size ≤ leng
   part = take m (drop (d + 1) s)
 
   y : Layout n d
-  y = fits (not-false r hr)
+  y = fits hr
 
   part-long : length part ≡ m
   part-long = length-take-le m (drop (d + 1) s) (simp length-drop (omega (arith, y.whole, y.part)))
@@ -191,11 +191,11 @@ module _ (t : Bytes) (at n d : ℕ) (room : at + value_size + tail_size ≤ leng
         part-long,
       )
 
-  pub value_read : (x : ℕ) (b : Bool) → (0 < n - d → x ≡ point) → get_or t (at + d) 0 ≡ x → (b ≡ true → every is_numeral (bytes_of 8 a) ≡ true) → not b ≡ false
+  pub value_read : (x : ℕ) (b : Bool) → (0 < n - d → x ≡ point) → get_or t (at + d) 0 ≡ x → (b ≡ true → every is_numeral (bytes_of 8 a) ≡ true) → b ≡ true
       → BeginsDigits (drop at t) a n
   value_read x b g ex small hb =
       let short : length part ≤ 3 = omega (arith, part-long, y.part) in
-      let all : every is_numeral (bytes_of 8 a) ≡ true = small (not-false b hb) in
+      let all : every is_numeral (bytes_of 8 a) ≡ true = small hb in
       record {
         numerals = all;
         value =

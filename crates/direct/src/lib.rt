@@ -14,6 +14,7 @@
 // the four intervals one after another with no loop, and a span of fixed size, of which every index is proved to be inside. `read_triple` and
 // `read_direct` have to stay small: the compiler makes them a part of their caller's code (triple.rt and any.rt have what it costs otherwise).
 #![tactic(auto)]
+
 ghost use Rattle.std.specs.Prelude.{◌≡◌, ◌+◌, ◌<◌, ◌≤◌, true, [], ◌∷◌, ◌++◌, length, take, drop};
 ghost use Rattle.text.specs.Field.{comma};
 ghost use Rattle.details.specs.Detail.{detail_code};
