@@ -1,12 +1,12 @@
 -- The checks at each answer: flags, window day, the meter's own, and the judgement.
 -- Assumes nothing.
 use mathlib.Core.Path.{◌≡◌, refl, sym, ◌∙◌}
-use mathlib.Core.Bool.{Bool, true, false, cond, not}
+use mathlib.Core.Bool.{Bool, true, false, cond}
 use Prim.Native.Nat.{ℕ, ◌+◌, ◌-◌, ◌<◌, ◌≤◌}
 use native.Mathlib.Numerals.{add-one}
 use native.Mathlib.Omega.{arith}
 use lib.ListN.{length}
-use borrow.Author.Tests.{le-leb, lt-leb, lt-ltb, le-ltb, not-true, not-false}
+use borrow.Author.Tests.{le-leb, lt-leb, lt-ltb, le-ltb}
 use Rattle.calendar.specs.Date.{is_date}
 use Rattle.calendar.specs.Day.{day_number}
 use Rattle.calendar.specs.Answer.{day_is}
@@ -35,18 +35,18 @@ module _ (sum : ℕ) (p : Bool) (ep : p ≡ has_flag ercot_flag sum) where
   flag_ercot h = rw (← ep, h)
 
   module _ (hp : p ≡ false) (q : Bool) (eq : q ≡ has_flag interval_flag sum) where
-    pub flag_interval : not q ≡ true → refused no_interval_data ≡ flag_checks sum
+    pub flag_interval : q ≡ false → refused no_interval_data ≡ flag_checks sum
     unfolding flag_checks
-    flag_interval h = rw (← ep, hp, ← eq, not-true q h)
+    flag_interval h = rw (← ep, hp, ← eq, h)
 
-    module _ (hq : not q ≡ false) (u : Bool) (eu : u ≡ has_flag idr_flag sum) where
-      pub flag_idr : not u ≡ true → refused not_idr ≡ flag_checks sum
+    module _ (hq : q ≡ true) (u : Bool) (eu : u ≡ has_flag idr_flag sum) where
+      pub flag_idr : u ≡ false → refused not_idr ≡ flag_checks sum
       unfolding flag_checks
-      flag_idr h = rw (← ep, hp, ← eq, not-false q hq, ← eu, not-true u h)
+      flag_idr h = rw (← ep, hp, ← eq, hq, ← eu, h)
 
-      pub flag_right : not u ≡ false → passed tt ≡ flag_checks sum
+      pub flag_right : u ≡ true → passed tt ≡ flag_checks sum
       unfolding flag_checks
-      flag_right h = rw (← ep, hp, ← eq, not-false q hq, ← eu, not-false u h)
+      flag_right h = rw (← ep, hp, ← eq, hq, ← eu, h)
 
 -- THE WINDOW DAY
 number-real : (t : Bool) (k n : ℕ) → Number n ≡ cond t (Number k) NoDate → (t ≡ true) × (n ≡ k)
@@ -92,23 +92,23 @@ module _ (reg id sender : Bytes) (date : ℕ) (f : Found) (ef : f ≡ find_meter
   judge_unknown h = rw (← ef, h)
 
   module _ (m : ℕ) (hf : f ≡ At m) (o : Bool) (eo : o ≡ equals (meter_at reg m).owner sender) where
-    pub judge_owner : not o ≡ true → Refused not_owner (m + 1) ≡ judge reg id sender date
+    pub judge_owner : o ≡ false → Refused not_owner (m + 1) ≡ judge reg id sender date
     unfolding judge meter_checks
-    judge_owner h = rw (← ef, hf, ← eo, not-true o h, add-one)
+    judge_owner h = rw (← ef, hf, ← eo, h, add-one)
 
-    module _ (ho : not o ≡ false) (sum : ℕ) (es : sum ≡ (meter_at reg m).flags) (k : FlagCheck) (ek : flags_say k ≡ flag_checks sum) where
+    module _ (ho : o ≡ true) (sum : ℕ) (es : sum ≡ (meter_at reg m).flags) (k : FlagCheck) (ek : flags_say k ≡ flag_checks sum) where
       pub judge_flags : (v : ℕ) → k ≡ FlagsWrong v → Refused v (m + 1) ≡ judge reg id sender date
       unfolding judge meter_checks
-      judge_flags v h = rw (← ef, hf, ← eo, not-false o ho, ← es, ← ek, h, add-one)
+      judge_flags v h = rw (← ef, hf, ← eo, ho, ← es, ← ek, h, add-one)
 
       module _ (hk : k ≡ FlagsRight) (w : Window) (ew : w ≡ window_is reg) (d : WindowDay) (ed : day_says d ≡ day_in w date) where
         pub judge_outside : d ≡ Outside → Refused outside_window (m + 1) ≡ judge reg id sender date
         unfolding judge meter_checks
-        judge_outside h = rw (← ef, hf, ← eo, not-false o ho, ← es, ← ek, hk, ← ew, ← ed, h, add-one)
+        judge_outside h = rw (← ef, hf, ← eo, ho, ← es, ← ek, hk, ← ew, ← ed, h, add-one)
 
         pub judge_passed : (n : ℕ) → d ≡ Is n → Passed m n ≡ judge reg id sender date
         unfolding judge meter_checks
-        judge_passed n h = rw (← ef, hf, ← eo, not-false o ho, ← es, ← ek, hk, ← ew, ← ed, h)
+        judge_passed n h = rw (← ef, hf, ← eo, ho, ← es, ← ek, hk, ← ew, ← ed, h)
 
 -- a meter that is found is one of them
 pub found_below : (reg id : Bytes) (f : Found) (m count : ℕ) → f ≡ find_meter id (meters_of reg) → f ≡ At m → length (meters_of reg) ≡ count → m < count

@@ -5,7 +5,7 @@ use Rattle.calendar.specs.Date.{is_date}
 use Rattle.calendar.specs.Day.{day_number}
 use Rattle.text.specs.Byte.{Bytes, equals}
 use Rattle.text.specs.Identifier.{esi_id_size}
-use Rattle.report.specs.Outcome.{Outcome, passed, refused, require, ◌>>=◌, ◌>>◌}
+use Rattle.report.specs.Outcome.{Outcome, passed, refused, require, ◌>>◌}
 use Rattle.report.specs.Verdict.{unknown_meter, not_owner, read_by_ercot, no_interval_data, not_idr, outside_window}
 use Rattle.registry.specs.Registry.{Meter, max_meters, meters_of, window_is}
 use Rattle.registry.specs.Entry.{owner_size}

@@ -2,6 +2,7 @@
 //
 // For whoever changes it: the checks and their order are `meter_checks` of specs/Check.antt and `meter_checks` here.
 #![tactic(auto)]
+
 ghost use Rattle.std.specs.Prelude.{◌≡◌, ◌<◌};
 ghost use Rattle.checks.specs.Check.{has_flag, flag_checks, day_in, day_says, flags_say, judge as judged, Asks};
 

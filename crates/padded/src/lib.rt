@@ -3,5 +3,6 @@
 // For whoever changes it: every call of the loader tests the whole registry with these functions, so their loops run to a fixed end and
 // do not stop early; the compiler then takes many bytes at once.
 #![tactic(auto)]
+
 pub mod order;
 pub mod padding;

@@ -1,5 +1,6 @@
 // The order of padded ESI IDs by bytes.
 ghost use Rattle.std.specs.Prelude.{◌≡◌, length};
+ghost use Rattle.text.specs.Byte.{equals};
 ghost use Rattle.text.specs.Identifier.{esi_id_size};
 ghost use Rattle.padded.specs.Order.{order};
 ghost use Rattle.padded.specs.Private.{word};
@@ -54,4 +55,18 @@ pub fn compare(s: &[u8], t: &[u8]) -> Order
         i = end;
     }
     Order::Same
+}
+
+// Whether two texts of one length are the same.
+pub fn is_same(s: &[u8], t: &[u8]) -> bool
+    requires { length s.now ≡ length t.now }
+    ensures { result ≡ equals s.now t.now }
+{
+    let mut ok = true;
+    let mut i: usize = 0;
+    while i < s.len() {
+        ok = ok & (s[i] == t[i]);
+        i += 1;
+    }
+    ok
 }

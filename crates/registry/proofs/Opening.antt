@@ -2,12 +2,12 @@
 -- Assumes nothing.
 use mathlib.Core.Path.{◌≡◌, refl, sym, ap, ◌∙◌}
 use mathlib.Core.List.{[], ◌∷◌}
-use mathlib.Core.Bool.{Bool, true, false, cond, not, ◌&&◌, and-false}
+use mathlib.Core.Bool.{Bool, true, false, cond, ◌&&◌, and-false}
 use Prim.Native.Nat.{ℕ, ◌+◌, ◌-◌, ◌^◌, ◌≤◌, ◌<◌}
 use native.Mathlib.Omega.{arith}
 use lib.Dec.{eqb, leb}
 use lib.ListN.{length, take, drop, get_or, length-take, length-drop}
-use borrow.Author.Tests.{ne_eqb, lt-leb, le-leb, leb-true, leb-false, not-true, not-false}
+use borrow.Author.Tests.{ne_eqb, lt-leb, le-leb, leb-true, leb-false}
 use Rattle.calendar.specs.Date.{is_date}
 use Rattle.calendar.specs.Day.{day_number, last_day}
 use Rattle.calendar.specs.Answer.{day_is}
@@ -61,9 +61,9 @@ end_by n false true e f = absurd (omega (arith, leb-false n (last_day + 1) e, le
 end_by n false false e f = refl
 
 -- the digits of its two numbers
-module _ (body : Bytes) (r : Bool) (er : r ≡ every is_digit body) (h : not r ≡ false) where
+module _ (body : Bytes) (r : Bool) (er : r ≡ every is_digit body) (h : r ≡ true) where
   digits : every is_digit body ≡ true
-  digits = sym er ∙ not-false r h
+  digits = sym er ∙ h
 
   pub date_digits : Digits 9 (take 8 body)
   date_digits = record { short = rw (length-take 8 body) (omega arith); clean = every_take is_digit 8 body digits }
@@ -93,11 +93,11 @@ module _ (reg : Bytes) (n : window_size < length reg) (e : get_or reg 0 0 ≡ 1)
   start-here : start_of reg ≡ cond (is_window body) (From (window_of body)) NoWindow
   start-here = start-body reg n e ∙ rw (← eb)
 
-  pub start_letters : not r ≡ true → NoWindow ≡ start_of reg
+  pub start_letters : r ≡ false → NoWindow ≡ start_of reg
   unfolding is_window
-  start_letters h = sym (start-here ∙ rw (← er, not-true r h))
+  start_letters h = sym (start-here ∙ rw (← er, h))
 
-  module _ (h : not r ≡ false) where
+  module _ (h : r ≡ true) where
     module _ (date days : ℕ) (ed : date ≡ number (take 8 body)) (ey : days ≡ number (take (length body - 8) (drop 8 body))) (answer : Day) (ea : answer ≡ day_is date) where
       pub start_no_date : answer ≡ NoDate → NoWindow ≡ start_of reg
       unfolding is_window

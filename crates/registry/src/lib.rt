@@ -11,6 +11,7 @@
 // For whoever changes it: the rules are specs/Entry.antt (one entry) and specs/Registry.antt (their order), by kind and size; the longest
 // window is `MAX_DAYS`. Owners are unlimited and a meter's owner is kept with the meter, so a registry may be of any length.
 #![tactic(auto)]
+
 ghost use Rattle.std.specs.Prelude.{◌≡◌, false, ◌+◌, ◌<◌, length, drop};
 ghost use Rattle.text.specs.Byte.{equals};
 ghost use Rattle.text.specs.Identifier.{esi_id_size};

@@ -1,0 +1,16 @@
+-- `padded::padding::spaces_last` meets its contract.
+-- Assumes nothing.
+use mathlib.Core.Path.{refl}
+use native.Mathlib.Omega.{arith}
+use borrow.Author.Rules.{rules}
+use Rattle.padded.proofs.Scan.{last_step, last_end}
+use Rattle.padded.proofs.padding.spaces_last.Goals as goal
+
+pub loop-i-init : goal.loop-i-init
+loop-i-init c = (omega arith, omega arith, refl)
+
+pub loop-i-preserved : goal.loop-i-preserved
+loop-i-preserved c = (omega arith, omega arith, last_step _ c.loop-i.i c.loop-i.ok c.loop-i.invariant.2 (omega arith))
+
+pub returns : goal.returns
+returns c = search (last_end, rules)
