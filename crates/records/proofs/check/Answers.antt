@@ -9,7 +9,7 @@ use Rattle.records.proofs.check.Goals as goal
 pub overflow_cast-result : goal.overflow_cast-result
 overflow_cast-result c = omega (arith, (judged-within _ _ _ _ _ _ (sym c.judge.ensures ∙ c.in-Passed.is)).0, c.requires.0.meter_places.counted, c.requires.0.most)
 
-pub overflow_cast-result-in-Passed : goal.overflow_cast-result-2
+pub overflow_cast-result-in-Passed : goal.overflow_cast-result-in-Passed
 overflow_cast-result-in-Passed c = omega (arith, (judged-within _ _ _ _ _ _ (sym c.judge.ensures ∙ c.in-Passed.is)).1, ap (λ w. w.days) c.requires.0.windowed, c.requires.0.short)
 
 pub returns-in-Refused : goal.returns-in-Refused
