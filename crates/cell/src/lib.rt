@@ -12,6 +12,7 @@
 // For whoever changes it: the layout is `Cell`'s constants here, `mark::WORD_BITS` and specs/Layout.antt, and no number of it stands
 // elsewhere, in code or in a proof; what a built read says is `Holds` of specs/Read.antt, which a new part of the cell must join.
 #![tactic(auto)]
+
 ghost use Rattle.std.specs.Prelude.{◌≡◌, ◌<◌, length};
 ghost use Rattle.cell.specs.Layout.{width, max_intervals};
 ghost use Rattle.cell.specs.Read.{cleared, begun, with_stamp, with_interval, interval_in, stamp_in};

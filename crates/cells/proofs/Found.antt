@@ -9,7 +9,7 @@ use native.Mathlib.Omega.{arith}
 use lib.Dec.{leb, ltb}
 use lib.ListN.{length, take, drop, length-drop}
 use lib.Seq.{length-take-le}
-use borrow.Author.Tests.{ltb-false, lt-ltb, le-ltb, not-true, not-false}
+use borrow.Author.Tests.{ltb-false, lt-ltb, le-ltb, not-true}
 use Rattle.calendar.specs.Day.{last_day, date_of}
 use Rattle.calendar.specs.Intervals.{intervals_on, intervals_of}
 use Rattle.calendar.specs.Answer.{intervals_of_day}
@@ -58,18 +58,18 @@ lent_length table start room = rw (lent table start) (length-take-le width (drop
 -- ---- 2 AND 3
 
 module _ (legal : Bool) (meters days size : ℕ) where
-  pub table_registry : not legal ≡ true → bad_registry ≡ number_of (for_table legal (cell_count meters days) size)
+  pub table_registry : legal ≡ false → bad_registry ≡ number_of (for_table legal (cell_count meters days) size)
   unfolding for_table
-  table_registry h = rw (not-true legal h)
+  table_registry h = rw (h)
 
-  module _ (h : not legal ≡ false) (cells : ℕ) (e : cells ≡ cell_count meters days) where
+  module _ (h : legal ≡ true) (cells : ℕ) (e : cells ≡ cell_count meters days) where
     pub table-short : size < cells * width → short_table ≡ number_of (for_table legal (cell_count meters days) size)
     unfolding for_table
-    table-short l = rw (not-false legal h, ← e, lt-ltb size (cells * width) l)
+    table-short l = rw (h, ← e, lt-ltb size (cells * width) l)
 
     pub table_fits : cells * width ≤ size → done ≡ number_of (for_table legal (cell_count meters days) size)
     unfolding for_table
-    table_fits l = rw (not-false legal h, ← e, le-ltb size (cells * width) l)
+    table_fits l = rw (h, ← e, le-ltb size (cells * width) l)
 
 -- by the number: it passed, or that is the refusal
 module _ (legal : Bool) (cells size n : ℕ) (is : n ≡ number_of (for_table legal cells size)) where
@@ -179,11 +179,11 @@ module _ (reg : Bytes) (table : Words) (m c d : ℕ) (r : CellFound) (start : �
 
   module _ (x : CellIs r table (held_cell reg table m c d)) (n : ℕ) (en : n ≡ day_intervals reg d) (sound : Bool)
       (e : sound ≡ is_sound n (take (start + width - start) (drop start table))) where
-    pub sound_not : not sound ≡ true → CellIs (Refused unsound_cell) table (sound_cell reg table m c d)
-    sound_not t = rw (sound_stages reg table m c d) (cell_fails table (held_cell reg table m c d) r x _ start h unsound_cell (rw (← lent table start, ← en, ← e, not-true sound t)))
+    pub sound_not : sound ≡ false → CellIs (Refused unsound_cell) table (sound_cell reg table m c d)
+    sound_not t = rw (sound_stages reg table m c d) (cell_fails table (held_cell reg table m c d) r x _ start h unsound_cell (rw (← lent table start, ← en, ← e, t)))
 
-    pub sound_so : not sound ≡ false → CellIs (At start) table (sound_cell reg table m c d)
-    sound_so t = rw (sound_stages reg table m c d) (cell-passes table (held_cell reg table m c d) r x _ start h (rw (← lent table start, ← en, ← e, not-false sound t)))
+    pub sound_so : sound ≡ true → CellIs (At start) table (sound_cell reg table m c d)
+    sound_so t = rw (sound_stages reg table m c d) (cell-passes table (held_cell reg table m c d) r x _ start h (rw (← lent table start, ← en, ← e, t)))
 
 pub day-few : (date : ℕ) → intervals_on date ≤ max_intervals
 day-few date = ⊎_elim (λ x. omega arith) (λ y. ⊎_elim (λ x. omega arith) (λ x. omega arith) y) (intervals-three date)

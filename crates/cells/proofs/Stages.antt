@@ -29,7 +29,7 @@ module _ (reg : Bytes) (table : Words) (m c d : ℕ) where
     where
       go : (p q r h : Bool) → holds_none found ≡ h
           → (require p bad_registry >> (require (not q) short_table >> (require r no_cell >> (require (not (holds_none found)) empty_cell >> then_sound found))))
-              ≡ ((((require p bad_registry >> require (not q) short_table) >> (require r no_cell >> passed found)) >>= (λ w. require (not (holds_none w)) empty_cell >> passed w)) >>= then_sound)
+          ≡ ((((require p bad_registry >> require (not q) short_table) >> (require r no_cell >> passed found)) >>= (λ w. require (not (holds_none w)) empty_cell >> passed w)) >>= then_sound)
       go false q r h e = refl
       go true true r h e = refl
       go true false false h e = refl

@@ -4,6 +4,7 @@
 // For whoever changes it: `cell_number` is the only place that knows the order of the cells; others go by its laws (proofs/Numbers.antt):
 // below the number of cells, and no two addresses alike.
 #![tactic(auto)]
+
 ghost use Rattle.std.specs.Prelude.{◌≡◌, ◌+◌, ◌*◌, ◌<◌, ◌≤◌};
 ghost use Rattle.report.specs.Outcome.{number_of};
 ghost use Rattle.registry.specs.Registry.{max_meters};

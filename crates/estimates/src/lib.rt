@@ -3,6 +3,7 @@
 //     let answer = estimates(registry, table, meter, channel, day);   // meter from 0, load 0 or generation 1, window day from 0
 //     if answer.number == 0 { .. answer.count .. }                      // else document 01's refusal 2, 3, 6, 7 or 8, and count 0
 #![tactic(auto)]
+
 ghost use Rattle.std.specs.Prelude.{◌≡◌};
 ghost use Rattle.estimates.specs.Estimates.{estimates_of};
 

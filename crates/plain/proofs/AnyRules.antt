@@ -8,7 +8,6 @@ use Prim.Native.Nat.{ℕ, ◌+◌, ◌*◌, ◌<◌, ◌≤◌}
 use native.Mathlib.Omega.{arith}
 use lib.ListN.{length, length-append}
 use Rattle.text.specs.Byte.{Bytes}
-use Rattle.report.specs.Verdict.{long}
 use Rattle.cell.specs.Layout.{Words, width}
 use Rattle.reads.specs.Load.{cell_at}
 use Rattle.plain.specs.Call.{fresh, plain_answers, plain_events, plain_table}

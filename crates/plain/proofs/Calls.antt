@@ -1,6 +1,6 @@
 -- A chain of real calls does what the plain loader does; refusal 1 never comes up in it.
 -- Assumes nothing.
-use mathlib.Core.Bool.{Bool, true, false, not}
+use mathlib.Core.Bool.{Bool, true, false, cond, not}
 use mathlib.Core.List.{List, [], ◌∷◌, ◌++◌}
 use mathlib.Core.Path.{◌≡◌, refl, ap, sym, ◌∙◌}
 use Prim.Native.Nat.{ℕ, zero, suc, ◌+◌, ◌*◌, ◌≤◌}
@@ -10,10 +10,8 @@ use lib.ListN.{length, take, drop, length-take, length-map}
 use lib.Seq.{take-take, take_at}
 use borrow.Author.Tests.{ltb-false, le-ltb}
 use Rattle.lines.specs.Line.{kept_limit}
-use Rattle.report.specs.Verdict.{long}
 use Rattle.cell.specs.Layout.{Words, width}
-use Rattle.report.specs.Refusal.{bad_state, bad_registry, short_table, short_report, too_many_bytes}
-use Rattle.report.specs.Outcome.{require, number_of, ◌>>◌}
+use Rattle.report.specs.Refusal.{done, bad_state, bad_registry, short_table, short_report, too_many_bytes}
 use Rattle.plain.specs.Call.{byte_limit, room_for, Asked, feed, finish, Call, piece_of, Plain, fresh, Done, answer_of, table_after, refused_by, refused_at, done_call, by_number, plain_call, plain_answers, plain_table}
 use Rattle.plain.specs.Claim.{calls_of, answers_of, last_table}
 use Rattle.plain.specs.Loader.{OpenUnit, no_unit, takes_rows, waits, skips, Scan, scan, entries_of, loads_of, scan_to, scan_events}

@@ -2,7 +2,6 @@
 -- Assumes nothing.
 use mathlib.Core.List.{List, [], ◌∷◌, ◌++◌}
 use mathlib.Core.Path.{refl}
-use Prim.Native.Nat.{◌+◌}
 use lib.ListN.{length, drop}
 use Rattle.cell.specs.Layout.{Words}
 use Rattle.plain.specs.Call.{Asked}

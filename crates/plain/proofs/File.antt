@@ -7,7 +7,6 @@ use Prim.Native.Nat.{ℕ, zero, suc, ◌+◌, ◌*◌, ◌≤◌}
 use native.Mathlib.Omega.{arith}
 use lib.ListN.{length, length-append}
 use Rattle.text.specs.Byte.{Bytes}
-use Rattle.report.specs.Verdict.{long}
 use Rattle.cell.specs.Layout.{Words, width}
 use Rattle.plain.specs.Call.{byte_limit, room_for, Asked, feed, finish, Call, Plain, fresh, Done, table_after, refused_by, done_call, by_number, plain_call, plain_answers, plain_events, plain_table}
 use Rattle.plain.specs.Claim.{calls_of, answers_of, report_of, finish_done, took_by, taken_by, OnlyFinish, joined, one_file, alone, alone_table}

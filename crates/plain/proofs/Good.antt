@@ -3,7 +3,7 @@
 use mathlib.Core.Bool.{Bool, true, false, cond}
 use mathlib.Core.List.{List, [], ◌∷◌, ◌++◌}
 use mathlib.Core.Option.{Option, none, some}
-use Prim.Native.Nat.{ℕ, ◌+◌}
+use Prim.Native.Nat.{ℕ}
 use Rattle.text.specs.Byte.{Bytes}
 use Rattle.plain.specs.Loader.{OpenUnit, Event, Scan, with_load, loads_of, scan_to, scan_events, end_events}
 use Rattle.plain.specs.Rows.{Load, Row, refused_with, goes_on, complete, Rules}

@@ -3,7 +3,6 @@
 use mathlib.Core.Bool.{Bool, true, false, cond, ◌||◌}
 use mathlib.Core.List.{List, [], ◌∷◌, ◌++◌, append_assoc, append-nil}
 use mathlib.Core.Path.{◌≡◌, refl}
-use Prim.Native.Nat.{◌+◌}
 use Rattle.reads.proofs.Stamps.{later_trans, later_chain}
 use Rattle.cell.specs.Layout.{Words}
 use Rattle.reads.specs.Load.{holds_none, is_later, merge}

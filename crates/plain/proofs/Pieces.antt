@@ -3,14 +3,14 @@
 use mathlib.Core.List.{List, [], ◌∷◌, ◌++◌, map, append_assoc}
 use mathlib.Core.Option.{Option, none, some}
 use mathlib.Core.Path.{◌≡◌, refl, ap}
-use Prim.Native.Nat.{ℕ, ◌+◌}
+use Prim.Native.Nat.{ℕ}
 use lib.Dec.{eqb}
 use Rattle.text.specs.Byte.{Bytes}
 use Rattle.lines.specs.Line.{LF}
 use Rattle.cell.specs.Layout.{Words}
 use Rattle.plain.specs.Loader.{Event, Scan, entries_of, with_load, loads_of, byte_to, byte_events, scan_to, scan_events, end_at, end_events, file_from}
 use Rattle.plain.specs.Rows.{Load, Rules}
-use Rattle.plain.specs.Table.{load_all}
+use Rattle.plain.specs.Table.{load_one, load_all}
 
 pub map-append : {A B : Type 0} (f : A → B) (s t : List A) → map f (s ++ t) ≡ map f s ++ map f t
 map-append f [] t = refl
@@ -55,4 +55,4 @@ module _ (R : Rules) where
   pub load_all-append : (t : Words) (k l : List Load) → load_all R t (k ++ l) ≡ load_all R (load_all R t k) l
   unfolding load_all
   load_all-append t [] l = refl
-  load_all-append t (x ∷ k) l = load_all-append _ k l
+  load_all-append t (x ∷ k) l = load_all-append (load_one R t x) k l

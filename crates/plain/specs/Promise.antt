@@ -1,7 +1,7 @@
 -- What one real call of feed or finish promises, from any state; and chains of such calls. Document 01, "What a call returns" (1) and
 -- "For whoever tests it".
 -- Assumes nothing.
-use Rattle.std.specs.Prelude.{◌≡◌, List, [], ◌∷◌, ◌++◌, Bool, cond, ◌||◌, ℕ, zero, suc, ◌+◌, ltb, length, take, drop}
+use Rattle.std.specs.Prelude.{◌≡◌, List, [], ◌∷◌, ◌++◌, Bool, cond, ◌||◌, ℕ, zero, suc, ltb, length, take, drop}
 use Rattle.lines.specs.Line.{kept_limit}
 use Rattle.cell.specs.Layout.{Words}
 use Rattle.report.specs.Refusal.{bad_state}

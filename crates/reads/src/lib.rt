@@ -6,6 +6,7 @@
 //
 // For whoever changes it: which read wins is `merge` of specs/Load.antt, by the order of stamps `is_later`; when a cell is sound is specs/Sound.antt.
 #![tactic(auto)]
+
 ghost use Rattle.std.specs.Prelude.{◌≡◌, ◌||◌, ◌+◌, ◌*◌, ◌≤◌, length};
 ghost use Rattle.cell.specs.Layout.{width};
 ghost use Rattle.cell.specs.Read.{stamp_in};
