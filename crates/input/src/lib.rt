@@ -5,8 +5,9 @@ ghost use Rattle.std.specs.Prelude.{◌<◌, length, take, IfOk};
 ghost use Rattle.std.specs.Io.{ReadsAtMost};
 ghost use Rattle.std.specs.Io.KnownBytes.{Consumes, IsAtEnd};
 
-use std::io;
 use std::io::Read;
+use std::rt::Files;
+use std::{fs, io};
 
 // Reads until the buffer is full or there is no more to read; how many bytes were put at its start.
 pub fn read_full<R: Read>(reader: &mut R, buffer: &mut [u8]) -> io::Result<usize>
@@ -23,4 +24,14 @@ pub fn read_full<R: Read>(reader: &mut R, buffer: &mut [u8]) -> io::Result<usize
         done += n;
     }
     Ok(done)
+}
+
+// The bytes of a file, as far as there is room; how many were put at the buffer's start. A file that can't be opened has none.
+pub fn read_file(rt: &impl Files, name: &str, buffer: &mut [u8]) -> io::Result<usize>
+    ensures { ReadsAtMost result buffer.new }
+{
+    match fs::open(rt, name) {
+        Ok(mut file) => read_full(&mut file, buffer),
+        Err(_) => Ok(0),
+    }
 }
