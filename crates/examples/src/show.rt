@@ -5,132 +5,132 @@ use headers::one::{Channel, One, read_one};
 use headers::thirty::{Thirty, read_thirty};
 use headers::three::read_three;
 use headers::two::read_two;
-use libc::STDOUT_FILENO;
 use lines::row::{Checked, Place};
+use std::io;
 use text::fields::{behind, front};
 
-fn put(s: &[u8]) {
-    io::write_all(STDOUT_FILENO, s);
+fn put(rt: &impl Print, s: &[u8]) -> io::Result<()> {
+    rt.write_all(s)
 }
 
-fn number(n: u32) {
-    io::print_decimal(STDOUT_FILENO, n as u64);
+fn number(rt: &impl Print, n: u32) -> io::Result<()> {
+    rt.print(n)
 }
 
-fn space_and(n: u32) {
-    put(b" ");
-    number(n);
+fn space_and(rt: &impl Print, n: u32) -> io::Result<()> {
+    put(rt, b" ")?;
+    number(rt, n)
 }
 
-fn row(line: &[u8]) {
-    put(b": ");
-    put(line);
-    put(b"\n");
+fn row(rt: &impl Print, line: &[u8]) -> io::Result<()> {
+    put(rt, b": ")?;
+    put(rt, line)?;
+    put(rt, b"\n")
 }
 
-fn place(line: &[u8], p: Place) {
+fn place(rt: &impl Print, line: &[u8], p: Place) -> io::Result<()> {
     let at = p.at;
     let len = p.len;
-    put(b" ");
-    put(front(behind(line, at), len));
+    put(rt, b" ")?;
+    put(rt, front(behind(line, at), len))
 }
 
-pub fn heading(s: &[u8]) {
-    put(b"# ");
-    put(s);
-    put(b"\n");
+pub fn heading(rt: &impl Print, s: &[u8]) -> io::Result<()> {
+    put(rt, b"# ")?;
+    put(rt, s)?;
+    put(rt, b"\n")
 }
 
-fn channel(c: Channel) {
+fn channel(rt: &impl Print, c: Channel) -> io::Result<()> {
     match c {
-        Channel::Load => put(b" load"),
-        Channel::Generation => put(b" generation"),
+        Channel::Load => put(rt, b" load"),
+        Channel::Generation => put(rt, b" generation"),
     }
 }
 
-pub fn one(line: &[u8]) {
+pub fn one(rt: &impl Print, line: &[u8]) -> io::Result<()> {
     match read_one(line, false) {
-        One::Refused(verdict) => number(verdict),
+        One::Refused(verdict) => number(rt, verdict)?,
         One::Passed(id, c, day) => {
-            number(0);
-            place(line, id);
-            channel(c);
-            space_and(day);
+            number(rt, 0)?;
+            place(rt, line, id)?;
+            channel(rt, c)?;
+            space_and(rt, day)?;
         }
     }
-    row(line);
+    row(rt, line)
 }
 
 // A line that can't be printed, as row one.
-pub fn odd(line: &[u8]) {
+pub fn odd(rt: &impl Print, line: &[u8]) -> io::Result<()> {
     match read_one(line, false) {
-        One::Refused(verdict) => number(verdict),
-        One::Passed(_, _, _) => number(0),
+        One::Refused(verdict) => number(rt, verdict)?,
+        One::Passed(_, _, _) => number(rt, 0)?,
     }
-    put(b": ");
-    io::print_decimal(STDOUT_FILENO, line.len() as u64);
-    put(b" bytes\n");
+    put(rt, b": ")?;
+    rt.print(line.len())?;
+    put(rt, b" bytes\n")
 }
 
-fn checked(c: Checked) {
+fn checked(rt: &impl Print, c: Checked) -> io::Result<()> {
     match c {
-        Checked::Refused(verdict) => number(verdict),
-        Checked::Passed => number(0),
+        Checked::Refused(verdict) => number(rt, verdict),
+        Checked::Passed => number(rt, 0),
     }
 }
 
-pub fn two(line: &[u8]) {
-    checked(read_two(line, false));
-    row(line);
+pub fn two(rt: &impl Print, line: &[u8]) -> io::Result<()> {
+    checked(rt, read_two(line, false))?;
+    row(rt, line)
 }
 
-pub fn three(line: &[u8]) {
-    checked(read_three(line, false));
-    row(line);
+pub fn three(rt: &impl Print, line: &[u8]) -> io::Result<()> {
+    checked(rt, read_three(line, false))?;
+    row(rt, line)
 }
 
-pub fn four(line: &[u8]) {
+pub fn four(rt: &impl Print, line: &[u8]) -> io::Result<()> {
     match read_four(line, false) {
-        Four::Refused(verdict) => number(verdict),
+        Four::Refused(verdict) => number(rt, verdict)?,
         Four::Passed(stamp) => {
-            number(0);
-            space_and(stamp.date);
-            space_and(stamp.clock);
+            number(rt, 0)?;
+            space_and(rt, stamp.date)?;
+            space_and(rt, stamp.clock)?;
         }
     }
-    row(line);
+    row(rt, line)
 }
 
-pub fn thirty(line: &[u8]) {
+pub fn thirty(rt: &impl Print, line: &[u8]) -> io::Result<()> {
     match read_thirty(line, false) {
-        Thirty::Refused(verdict) => number(verdict),
+        Thirty::Refused(verdict) => number(rt, verdict)?,
         Thirty::Passed(sender) => {
-            number(0);
-            place(line, sender);
+            number(rt, 0)?;
+            place(rt, line, sender)?;
         }
     }
-    row(line);
+    row(rt, line)
 }
 
-fn interval(i: Interval) {
-    space_and(i.wh);
+fn interval(rt: &impl Print, i: Interval) -> io::Result<()> {
+    space_and(rt, i.wh)?;
     if i.estimated {
-        put(b"E");
+        put(rt, b"E")
     } else {
-        put(b"A");
+        put(rt, b"A")
     }
 }
 
-pub fn detail(k: u32, line: &[u8]) {
+pub fn detail(rt: &impl Print, k: u32, line: &[u8]) -> io::Result<()> {
     match read_detail(line, false, k) {
-        Detail::Refused(verdict) => number(verdict),
+        Detail::Refused(verdict) => number(rt, verdict)?,
         Detail::Passed(a, b, c, d) => {
-            number(0);
-            interval(a);
-            interval(b);
-            interval(c);
-            interval(d);
+            number(rt, 0)?;
+            interval(rt, a)?;
+            interval(rt, b)?;
+            interval(rt, c)?;
+            interval(rt, d)?;
         }
     }
-    row(line);
+    row(rt, line)
 }

@@ -6,16 +6,20 @@
 // its number, and ends it. A missing registry.dat counts as empty; one that is longer than the program has room for is said so on standard
 // error, and nothing is loaded. The table has 64 cells, cleared.
 #![tactic(auto)]
+
 ghost use Rattle.std.specs.Prelude.{◌≡◌, ◌*◌, length};
 ghost use Rattle.cell.specs.Layout.{width};
 
 use batches::Fed;
 use cell::Cell;
+use input::{read_file, read_full};
 use loader::words::{feed_words, finish_words};
 use print::{entries, refused, text};
 use report::refusal::DONE;
 use report::words::PER_ENTRY;
 use state::fresh;
+use std::io;
+use std::rt::Files;
 
 const CELLS: usize = 64;
 
@@ -57,56 +61,51 @@ fn table_space() -> [u32; TABLE_WORDS]
 }
 
 // The bytes of registry.dat, as far as there is room.
-fn read_registry(registry: &mut [u8]) -> usize {
-    let file = os::open_read(b"registry.dat");
-    if file < 0 {
-        return 0;
-    }
-    let n = io::read_full(file, registry);
-    libc::close(file);
-    n
+fn read_registry(rt: &impl Files, registry: &mut [u8]) -> io::Result<usize> {
+    read_file(rt, "registry.dat", registry)
 }
 
 // Prints what a call wrote; whether it was done.
-fn told(f: Fed, report: &[u32]) -> bool {
+fn told(rt: &impl Print, f: Fed, report: &[u32]) -> io::Result<bool> {
     if f.number != DONE {
-        refused(f.number);
-        return false;
+        refused(rt, f.number)?;
+        return Ok(false);
     }
-    entries(report, f.count);
-    true
+    entries(rt, report, f.count)?;
+    Ok(true)
 }
 
 // Feeds standard input piece by piece, and finishes.
-fn load(registry: &[u8]) {
+fn load(rt: &(impl Input + Print), registry: &[u8]) -> io::Result<()> {
+    let mut reader = rt.reader();
     let mut table = table_space();
     let mut report = report_space();
     let mut piece = piece_space();
     let mut s = fresh();
     let mut i: usize = 0;
     while i <= MOST_PIECES {
-        let n = io::read_full(0, &mut piece);
+        let n = read_full(&mut reader, &mut piece)?;
         if n == 0 {
             break;
         }
         let f = feed_words(s, &piece[0..n], registry, &mut table, &mut report);
-        if !told(f, &report) {
-            return;
+        if !told(rt, f, &report)? {
+            return Ok(());
         }
         s = f.state;
         i += 1;
     }
     let f = finish_words(s, registry, &mut table, &mut report);
-    told(f, &report);
+    told(rt, f, &report)?;
+    Ok(())
 }
 
-fn main() {
-    text(b"line verdict at meter day\n");
+fn main(rt: HostRuntime) -> io::Result<()> {
+    text(&rt, b"line verdict at meter day\n")?;
     let mut registry = registry_space();
-    let n = read_registry(&mut registry);
+    let n = read_registry(&rt, &mut registry)?;
     if REGISTRY_SIZE < n {
-        io::write_all(2, b"lseload: registry.dat is longer than 262144 bytes\n");
-        return;
+        return rt.eprintln("lseload: registry.dat is longer than 262144 bytes");
     }
-    load(&registry[0..n]);
+    load(&rt, &registry[0..n])
 }

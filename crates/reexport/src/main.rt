@@ -1,7 +1,8 @@
 // Writes the cells of a small table out, loads the text into a cleared table, and prints what Write answered, the text, and the report of the load.
 // Then what Write refuses.
 #![tactic(auto)]
-ghost use Rattle.std.specs.Prelude.{◌+◌, ◌*◌, ◌≤◌, length};
+
+ghost use Rattle.std.specs.Prelude.{◌+◌, ◌*◌, ◌≤◌, length, IfOk};
 ghost use Rattle.cell.specs.Layout.{width, max_intervals};
 
 use cell::{Cell, put_interval, put_stamp};
@@ -13,6 +14,7 @@ use reads::load;
 use report::words::PER_ENTRY;
 use show::{cell_written, refusal};
 use state::{State, fresh};
+use std::io;
 use writer::write;
 
 mod show;
@@ -62,15 +64,16 @@ fn at_most(n: usize, most: usize) -> usize
 
 // What a cell is written as, put behind the text so far; how long the text then is.
 fn written(
+    rt: &impl Print,
     table: &[u32],
     meter: usize,
     channel: usize,
     day: usize,
     out: &mut [u8],
     at: usize,
-) -> usize
+) -> io::Result<usize>
     requires { at ≤ length out.old }
-    ensures { result ≤ length out.old }
+    ensures { IfOk result (λ end. end ≤ length out.old) }
 {
     let answer = write(
         &REGISTRY,
@@ -81,31 +84,31 @@ fn written(
         b"KILNSORREL1",
         &mut out[at..],
     );
-    cell_written(meter, channel, day, answer);
-    at + at_most(answer.length, out.len() - at)
+    cell_written(rt, meter, channel, day, answer)?;
+    Ok(at + at_most(answer.length, out.len() - at))
 }
 
 // Feeds a piece of a text, and prints its report.
-fn feed(state: State, piece: &[u8], table: &mut [u32]) -> State {
+fn feed(rt: &impl Print, state: State, piece: &[u8], table: &mut [u32]) -> io::Result<State> {
     let mut report = [0; REPORT];
     let fed = feed_words(state, piece, &REGISTRY, table, &mut report);
-    entries(&report, fed.count);
-    fed.state
+    entries(rt, &report, fed.count)?;
+    Ok(fed.state)
 }
 
-fn finish(state: State, table: &mut [u32]) {
+fn finish(rt: &impl Print, state: State, table: &mut [u32]) -> io::Result<()> {
     let mut report = [0; REPORT];
     let fed = finish_words(state, &REGISTRY, table, &mut report);
-    entries(&report, fed.count);
+    entries(rt, &report, fed.count)
 }
 
 // Loads a text in two pieces, the second from the middle of a row on.
-fn load_text(s: &[u8], table: &mut [u32]) {
-    text(b"line verdict at meter day\n");
+fn load_text(rt: &impl Print, s: &[u8], table: &mut [u32]) -> io::Result<()> {
+    text(rt, b"line verdict at meter day\n")?;
     let middle = s.len() / 2;
-    let mut state = feed(fresh(), &s[0..middle], table);
-    state = feed(state, &s[middle..], table);
-    finish(state, table);
+    let mut state = feed(rt, fresh(), &s[0..middle], table)?;
+    state = feed(rt, state, &s[middle..], table)?;
+    finish(rt, state, table)
 }
 
 fn same(a: &[u32], b: &[u32]) -> bool {
@@ -123,69 +126,76 @@ fn same(a: &[u32], b: &[u32]) -> bool {
 }
 
 // Three cells: both kinds of day, both channels, both meters.
-fn there_and_back(table: &[u32]) {
+fn there_and_back(rt: &impl Print, table: &[u32]) -> io::Result<()> {
     let mut out = [0; TEXT];
-    text(b"meter channel day number length\n");
-    let mut end = written(table, 0, 0, 0, &mut out, 0);
-    end = written(table, 0, 1, 1, &mut out, end);
-    end = written(table, 1, 0, 1, &mut out, end);
-    text(&out[0..end]);
+    text(rt, b"meter channel day number length\n")?;
+    let mut end = written(rt, table, 0, 0, 0, &mut out, 0)?;
+    end = written(rt, table, 0, 1, 1, &mut out, end)?;
+    end = written(rt, table, 1, 0, 1, &mut out, end)?;
+    text(rt, &out[0..end])?;
     let mut loaded = [0; WORDS];
-    load_text(&out[0..end], &mut loaded);
+    load_text(rt, &out[0..end], &mut loaded)?;
     if same(table, &loaded) {
-        text(b"the tables are the same\n");
+        text(rt, b"the tables are the same\n")
     } else {
-        text(b"the tables differ\n");
+        text(rt, b"the tables differ\n")
     }
 }
 
 // What Write answers of a cell, with room for its record.
-fn of_cell(name: &[u8], table: &[u32], meter: usize, channel: usize, day: usize) {
+fn of_cell(
+    rt: &impl Print,
+    name: &[u8],
+    table: &[u32],
+    meter: usize,
+    channel: usize,
+    day: usize,
+) -> io::Result<()> {
     let mut out = [0; TEXT];
     let answer = write(&REGISTRY, table, meter, channel, day, b"D", &mut out);
-    refusal(name, answer);
+    refusal(rt, name, answer)
 }
 
-fn of_descriptor(name: &[u8], table: &[u32], descriptor: &[u8]) {
+fn of_descriptor(rt: &impl Print, name: &[u8], table: &[u32], descriptor: &[u8]) -> io::Result<()> {
     let mut out = [0; TEXT];
     let answer = write(&REGISTRY, table, 0, 0, 0, descriptor, &mut out);
-    refusal(name, answer);
+    refusal(rt, name, answer)
 }
 
-fn of_short_registry(table: &[u32]) {
+fn of_short_registry(rt: &impl Print, table: &[u32]) -> io::Result<()> {
     let mut out = [0; TEXT];
     let answer = write(&REGISTRY[..90], table, 0, 0, 0, b"D", &mut out);
-    refusal(b"a registry that ends early", answer);
+    refusal(rt, b"a registry that ends early", answer)
 }
 
 // The record has 1,804 bytes.
-fn of_short_output(table: &[u32]) {
+fn of_short_output(rt: &impl Print, table: &[u32]) -> io::Result<()> {
     let mut out = [0; 1803];
     let answer = write(&REGISTRY, table, 0, 0, 0, b"D", &mut out);
-    refusal(b"an output one byte short", answer);
+    refusal(rt, b"an output one byte short", answer)
 }
 
-fn refusals(table: &[u32])
+fn refusals(rt: &impl Print, table: &[u32]) -> io::Result<()>
     requires { 1 ≤ length table.now }
 {
-    of_short_registry(table);
-    of_cell(b"a table one word short", &table[1..], 0, 0, 0);
-    of_cell(b"meter 2", table, 2, 0, 0);
-    of_cell(b"channel 2", table, 0, 2, 0);
-    of_cell(b"day 2", table, 0, 0, 2);
-    of_cell(b"an empty cell", table, 1, 1, 0);
-    of_descriptor(b"a descriptor with a blank", table, b"D 1");
-    of_descriptor(b"no descriptor", table, b"");
-    of_short_output(table);
+    of_short_registry(rt, table)?;
+    of_cell(rt, b"a table one word short", &table[1..], 0, 0, 0)?;
+    of_cell(rt, b"meter 2", table, 2, 0, 0)?;
+    of_cell(rt, b"channel 2", table, 0, 2, 0)?;
+    of_cell(rt, b"day 2", table, 0, 0, 2)?;
+    of_cell(rt, b"an empty cell", table, 1, 1, 0)?;
+    of_descriptor(rt, b"a descriptor with a blank", table, b"D 1")?;
+    of_descriptor(rt, b"no descriptor", table, b"")?;
+    of_short_output(rt, table)
 }
 
-fn main() {
+fn main(rt: HostRuntime) -> io::Result<()> {
     let mut table = [0; WORDS];
     put_read(&mut table, 0, 100, 20081103, 1530);
     put_read(&mut table, 3, 96, 20081104, 235959);
     put_read(&mut table, 5, 96, 20081105, 0);
-    there_and_back(&table);
-    refusals(&table);
+    there_and_back(&rt, &table)?;
+    refusals(&rt, &table)?;
     table[Cell::DATE] = 20080230;
-    of_cell(b"a stamp that is no date", &table, 0, 0, 0);
+    of_cell(&rt, b"a stamp that is no date", &table, 0, 0, 0)
 }

@@ -1,17 +1,21 @@
 // Replays the cases of data/: each is a cut, a registry and a file, which is fed in pieces of that many bytes and finished, with a cleared table of
 // 64 cells. It prints what lseload prints, and then each cell that holds a read: its number, words 0 to 6, and the sum of its watt hours.
 #![tactic(auto)]
+
 ghost use Rattle.std.specs.Prelude.{◌≡◌, ◌*◌, ◌<◌, ◌≤◌, length};
 ghost use Rattle.cell.specs.Layout.{width};
 
 use batches::Fed;
 use cell::Cell;
+use input::read_file;
 use loader::words::{feed_words, finish_words};
 use print::{entries, refused};
 use report::refusal::DONE;
 use report::words::PER_ENTRY;
 use show::{cell_line, heading};
 use state::fresh;
+use std::io;
+use std::rt::Files;
 use text::fields::{behind, front};
 
 mod show;
@@ -66,25 +70,26 @@ fn number_at(s: &[u8], at: usize) -> usize
 }
 
 // Prints what a call wrote; whether it was done.
-fn told(f: Fed, report: &[u32]) -> bool {
+fn told(rt: &impl Print, f: Fed, report: &[u32]) -> io::Result<bool> {
     if f.number != DONE {
-        refused(f.number);
-        return false;
+        refused(rt, f.number)?;
+        return Ok(false);
     }
-    entries(report, f.count);
-    true
+    entries(rt, report, f.count)?;
+    Ok(true)
 }
 
 // Each cell that holds a read.
-fn cells_of(table: &[u32]) {
+fn cells_of(rt: &impl Print, table: &[u32]) -> io::Result<()> {
     let mut c: u64 = 0;
     let mut at: usize = 0;
     while at + Cell::WIDTH <= table.len() {
         let end = at + Cell::WIDTH;
-        cell_line(c, &table[at..end]);
+        cell_line(rt, c, &table[at..end])?;
         at = end;
         c += 1;
     }
+    Ok(())
 }
 
 fn at_most(n: usize, most: usize) -> usize
@@ -96,7 +101,7 @@ fn at_most(n: usize, most: usize) -> usize
     most
 }
 
-fn replay(cut: usize, registry: &[u8], file: &[u8]) {
+fn replay(rt: &impl Print, cut: usize, registry: &[u8], file: &[u8]) -> io::Result<()> {
     let mut table = table_space();
     let mut report = report_space();
     let mut s = fresh();
@@ -104,23 +109,24 @@ fn replay(cut: usize, registry: &[u8], file: &[u8]) {
     while at < file.len() {
         let n = at_most(cut, file.len() - at);
         if n == 0 {
-            return;
+            return Ok(());
         }
         let end = at + n;
         let f = feed_words(s, &file[at..end], registry, &mut table, &mut report);
-        if !told(f, &report) {
-            return;
+        if !told(rt, f, &report)? {
+            return Ok(());
         }
         s = f.state;
         at = end;
     }
     let f = finish_words(s, registry, &mut table, &mut report);
-    if told(f, &report) {
-        cells_of(&table);
+    if told(rt, f, &report)? {
+        cells_of(rt, &table)?;
     }
+    Ok(())
 }
 
-fn replay_all(cases: &[u8]) {
+fn replay_all(rt: &impl Print, cases: &[u8]) -> io::Result<()> {
     let mut at: usize = 0;
     let mut n: u64 = 1;
     while at < cases.len() {
@@ -130,25 +136,21 @@ fn replay_all(cases: &[u8]) {
         let file_at = at + 12 + registry_size;
         let file_size = number_at(cases, file_at - 4);
         let file = front(behind(cases, file_at), file_size);
-        heading(n);
-        replay(cut, registry, file);
+        heading(rt, n)?;
+        replay(rt, cut, registry, file)?;
         at = file_at + file_size;
         n += 1;
     }
+    Ok(())
 }
 
-fn read_cases(name: &[u8]) {
+fn read_cases(rt: &(impl Files + Print), name: &str) -> io::Result<()> {
     let mut cases = cases_space();
-    let file = os::open_read(name);
-    if file < 0 {
-        return;
-    }
-    let n = io::read_full(file, &mut cases);
-    libc::close(file);
-    replay_all(&cases[0..n]);
+    let n = read_file(rt, name, &mut cases)?;
+    replay_all(rt, &cases[0..n])
 }
 
-fn main() {
-    read_cases(b"files.cases");
-    read_cases(b"fields.cases");
+fn main(rt: HostRuntime) -> io::Result<()> {
+    read_cases(&rt, "files.cases")?;
+    read_cases(&rt, "fields.cases")
 }

@@ -3,6 +3,7 @@ ghost use Rattle.std.specs.Prelude.{◌≤◌};
 
 use cell::Cell;
 use print::{number, text};
+use std::io;
 
 fn wide(n: u32) -> u64
     ensures { result ≤ 4294967295 }
@@ -10,9 +11,9 @@ fn wide(n: u32) -> u64
     n as u64
 }
 
-pub fn heading(n: u64) {
-    text(b"case ");
-    number(n, b"\nline verdict at meter day\n");
+pub fn heading(rt: &impl Print, n: u64) -> io::Result<()> {
+    text(rt, b"case ")?;
+    number(rt, n, b"\nline verdict at meter day\n")
 }
 
 // The watt hours of a cell, added up. A cell has no more intervals than that, so the sum fits.
@@ -30,19 +31,19 @@ fn total(values: &[u32]) -> u64 {
 }
 
 // The line of cell number c, given by its words, if it holds a read.
-pub fn cell_line(c: u64, words: &[u32]) {
+pub fn cell_line(rt: &impl Print, c: u64, words: &[u32]) -> io::Result<()> {
     if words.len() < Cell::WIDTH {
-        return;
+        return Ok(());
     }
     if words[Cell::COUNT] == 0 {
-        return;
+        return Ok(());
     }
-    text(b"cell ");
-    number(c, b" ");
+    text(rt, b"cell ")?;
+    number(rt, c, b" ")?;
     let mut i: usize = 0;
     while i < Cell::VALUES {
-        number(wide(words[i]), b" ");
+        number(rt, wide(words[i]), b" ")?;
         i += 1;
     }
-    number(total(&words[Cell::VALUES..Cell::WIDTH]), b"\n");
+    number(rt, total(&words[Cell::VALUES..Cell::WIDTH]), b"\n")
 }
