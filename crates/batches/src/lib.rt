@@ -12,6 +12,7 @@
 // For whoever changes it: a batch is passed by value and holds all that goes from one turn of a feed to the next, so that the calls above have only borrows
 // to pass on. It has room for the entries of the lines that `read_lines` reads before it stops.
 #![tactic(auto)]
+
 ghost use Rattle.std.specs.Prelude.{◌≡◌, ◌+◌, ◌*◌, ◌<◌, length};
 ghost use Rattle.report.specs.Words.{per_entry, entry_at};
 ghost use Rattle.registry.specs.Registry.{max_meters};

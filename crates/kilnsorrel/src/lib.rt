@@ -9,6 +9,7 @@
 // For whoever changes it: a state crosses the border as words, by statewords/specs/Layout.antt; whatever they hold, they are some state. A run of another
 // length is refused 1. What the calls do is loader's, estimates' and writer's; here is only how it is asked and answered.
 #![tactic(auto)]
+
 ghost use Rattle.std.specs.Prelude.{◌≡◌, ◌^◌, ◌<◌};
 ghost use Rattle.cell.specs.Layout.{word_bits};
 ghost use Rattle.estimates.specs.Estimates.{estimates_of};

@@ -25,7 +25,7 @@ use Rattle.report.specs.declared.Entry.{Entry}
 use Rattle.plain.specs.Rows.{rules_of}
 use Rattle.plain.specs.Table.{load_all}
 use Rattle.plain.specs.Loader.{Scan, scan_to, scan_events, end_events, entries_of, loads_of}
-use Rattle.plain.specs.Call.{room_for, Asked, feed, finish, Call, piece_of, done_call, fresh}
+use Rattle.plain.specs.Call.{room_for, Asked, feed, finish, Call, piece_of, done_call}
 use Rattle.plain.specs.Promise.{cut_scan, cut_to, view_from, code_number, code_call}
 use Rattle.plain.proofs.Room.{feed-room, finish-room}
 use Rattle.pieces.specs.Ran.{Ran}

@@ -3,11 +3,7 @@
 pub mod Batching
 -- The calls with a report of words.
 pub mod WordsLaws
--- For the walks of put_batch, feed and finish: entries put into a list, a table or report that is lent again, and each callee's contract as a step.
+-- Entries put into a list.
 pub mod Pasting
-pub mod Bodies
-pub mod Tests
-pub mod LentAgain
-pub mod Passing
 -- Demand 3 over the calls.
 pub mod Demand3

@@ -9,9 +9,9 @@
 // plain/specs/Claim.antt. `words` has the same calls with a report of words, for programs.
 //
 // For whoever changes it: `feed` and `finish` only pass values and borrows on. The work is in batches' `start`, `next_batch` and `last_batch`, over words and
-// not over entries; `put_batch` puts a batch's words into the report as entries. `feed`, `finish` and `put_batch` have a lent slice of entries, so each of
-// their proofs is a walk of the code by hand: a change of one moves the places that its walk counts.
+// not over entries; `put_batch` puts a batch's words into the report as entries. The laws that their proofs cite are proofs/Batching.antt's.
 #![tactic(auto)]
+
 ghost use Rattle.std.specs.Prelude.{◌≡◌, length};
 ghost use Rattle.report.specs.Words.{first_entries};
 ghost use Rattle.loader.specs.Keeps.{FeedKeeps, FinishKeeps};

@@ -4,5 +4,6 @@
 // The state's arrays are lent, its numbers go by value. For whoever changes it: what a line does is in units, what goes by in a run in runs; what bytes
 // do to a scan is `scan_to` of plain/specs/Loader.antt.
 #![tactic(auto)]
+
 pub mod line;
 pub mod run;

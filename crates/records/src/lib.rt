@@ -4,6 +4,7 @@
 // A record is kept in two parts: a few numbers that go by value (`Progress`), and its ESI ID, Sender and the words of its cell, which are
 // lent. For whoever changes it: the order of the rows is `due_row` of plain/specs/Rows.antt and `row_next` here.
 #![tactic(auto)]
+
 ghost use Rattle.std.specs.Prelude.{◌≡◌, [], ◌∷◌, true, ◌*◌, ◌<◌, ◌≤◌, length};
 ghost use Rattle.calendar.specs.Date.{is_date};
 ghost use Rattle.text.specs.Byte.{Bytes};

@@ -8,5 +8,6 @@
 //
 // For whoever changes it: what is put is specs/Text.antt, line by line; the digits of every number come from `digits::put_digits` alone.
 #![tactic(auto)]
+
 pub mod detail;
 pub mod rows;

@@ -2,12 +2,11 @@
 -- Assumes nothing.
 use mathlib.Core.Path.{◌≡◌, refl, sym, ◌∙◌}
 use mathlib.Core.List.{[]}
-use mathlib.Core.Bool.{Bool, true, false, not}
+use mathlib.Core.Bool.{Bool, true}
 use Prim.Native.Nat.{ℕ, suc, ◌+◌, ◌-◌, ◌<◌, ◌≤◌}
 use native.Mathlib.Numerals.{add-one}
 use native.Mathlib.Omega.{arith}
 use lib.ListN.{length}
-use borrow.Author.Tests.{not-false}
 use Rattle.text.specs.Byte.{Bytes}
 use Rattle.text.proofs.Truth.{apart}
 use Rattle.lines.specs.Line.{Line, ended_line, drop_cr, kind_of}
@@ -44,7 +43,7 @@ skips_begin lines piece at within fits =
     record { behind = omega arith; within = within; fits = fits; reaches = λ reg. rw z; quiet = λ reg. rw z }
 
 pub skips-again : (lines : ℕ) (piece : Bytes) (at n e : ℕ) → SkipsTo lines piece at (record { lines = n; at = e }) → (end : ℕ) → LineEnd piece e end
-    → end < length piece → (r : Bool) → r ≡ is_skipped (kind_of (drop_cr (between e end piece))) → not r ≡ false
+    → end < length piece → (r : Bool) → r ≡ is_skipped (kind_of (drop_cr (between e end piece))) → r ≡ true
     → SkipsTo lines piece at (record { lines = n + 1; at = end + 1 })
 skips-again lines piece at n e inv end E inside r is t =
     let line : LineAt piece e (end - e + 1) = line_at piece e end E inside in
@@ -63,4 +62,4 @@ skips-again lines piece at n e inv end E inside r is t =
     }
   where
     step : (reg : Bytes) → step_line (rules_of reg) (suc n) (ended_line (between e end piece)) skips ≡ record { unit = skips; events = [] }
-    step reg = skip_step reg (between e end piece) (suc n) (sym is ∙ not-false r t)
+    step reg = skip_step reg (between e end piece) (suc n) (sym is ∙ t)

@@ -9,6 +9,7 @@
 // For whoever changes it: what a run owes is specs/Run.antt, which goes by the plain loader's scan; a run that ends early is slower and still right.
 // The loops over rows are where most of a load's time goes (docs/SPEED.md).
 #![tactic(auto)]
+
 ghost use Rattle.std.specs.Prelude.{◌≡◌};
 ghost use Rattle.runs.specs.Run.{passed_rows, passed_lines, stood_at, Asks, Passes};
 

@@ -1,8 +1,8 @@
 -- What a call returns: refusal 1 by the state's view, 2 to 5 by the registry and the lengths; and what a call that is not refused has.
 -- Assumes nothing.
 use mathlib.Core.Path.{◌≡◌, refl, sym, ◌∙◌}
-use mathlib.Core.Bool.{Bool, true, false, cond, ◌||◌}
-use Prim.Native.Nat.{ℕ, ◌+◌, ◌-◌, ◌<◌, ◌≤◌}
+use mathlib.Core.Bool.{Bool, true, false, cond, not, ◌||◌}
+use Prim.Native.Nat.{ℕ, ◌+◌, ◌-◌, ◌<◌, ◌≤◌, ◌*◌}
 use native.Mathlib.Omega.{arith}
 use lib.Dec.{ltb}
 use lib.ListN.{length}
@@ -11,14 +11,13 @@ use Rattle.lines.specs.Line.{kept_limit}
 use Rattle.text.specs.Byte.{Bytes}
 use Rattle.text.proofs.Truth.{apart}
 use Rattle.registry.specs.Registry.{is_registry}
-use Rattle.cell.specs.Layout.{Words}
+use Rattle.cell.specs.Layout.{Words, width}
 use Rattle.cells.specs.Number.{cell_count}
 use Rattle.cells.specs.Address.{meter_count, day_count, cells_of}
-use Rattle.report.specs.Refusal.{done, bad_state, short_report, too_many_bytes}
+use Rattle.report.specs.Refusal.{done, bad_state, bad_registry, short_table, short_report, too_many_bytes}
 use Rattle.plain.specs.Rows.{rules_of, max_details}
-use Rattle.report.specs.Outcome.{passed, number_of}
+use Rattle.report.specs.Outcome.{number_of, require, ◌>>◌}
 use Rattle.cells.specs.Sound.{for_table}
-use Rattle.cells.proofs.Found.{for_table-done, for_table-refused}
 use Rattle.plain.specs.Call.{byte_limit, room_for, refused_at, Asked, piece_of}
 use Rattle.plain.specs.Promise.{details_in, overfull}
 use Rattle.plain.proofs.Calls.{Allowed, allowed}

@@ -9,6 +9,7 @@
 // For whoever changes it: `number_for` gets the registry as its index and the table, report and piece as their lengths, so that the calls that hold
 // these have nothing to say of refusals themselves.
 #![tactic(auto)]
+
 ghost use Rattle.std.specs.Prelude.{◌≡◌, ◌+◌, ◌≤◌, length};
 ghost use Rattle.lines.specs.Line.{kept_limit};
 ghost use Rattle.text.specs.Identifier.{esi_id_size, duns_size};

@@ -8,6 +8,7 @@
 // For whoever changes it: what `put_state` writes is read back as the same state, so a part that moves, moves in both and in specs/Layout.antt. The parts are
 // put one behind the other by `put_parts`, over slices only; `put_state` takes a state apart for it.
 #![tactic(auto)]
+
 ghost use Rattle.std.specs.Prelude.{◌≡◌, ◌+◌, ◌<◌, ◌≤◌, length, get_or};
 ghost use Rattle.statewords.specs.Layout.{state_words, unit_size, bytes_in, wide_in, channel_in, unit_from, state_in};
 ghost use Rattle.statewords.specs.Private.{put_at, Sized, PartsPut};

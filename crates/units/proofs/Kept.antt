@@ -2,10 +2,9 @@
 -- Assumes nothing.
 use mathlib.Core.Path.{◌≡◌, refl, sym}
 use mathlib.Core.List.{List, [], ◌∷◌, ◌++◌, append-nil}
-use mathlib.Core.Bool.{Bool, true, false, not}
+use mathlib.Core.Bool.{Bool, true, false}
 use Prim.Native.Nat.{ℕ, suc, ◌≤◌}
 use native.Mathlib.Omega.{arith}
-use borrow.Author.Tests.{not-true, not-false}
 use Rattle.report.specs.Words.{entry_of}
 use Rattle.text.specs.Byte.{Bytes}
 use Rattle.lines.specs.Line.{Line, kind_of}
@@ -219,10 +218,10 @@ module _ (all : Bool) (reg : Bytes) (n : ℕ) (unit : KeptUnit) (id sender : Byt
   abbrev Judges : Stepped → Type 0
   Judges r = Reads (judged_if all reg n (unit_of unit id sender words)) (unit_of r.unit id sender words) (told r.said)
 
-  pub judged-takes : (first : ℕ) (p : Progress) → not all ≡ false → unit ≡ Takes first p → (row : RowRead) (r : Stepped)
+  pub judged-takes : (first : ℕ) (p : Progress) → all ≡ true → unit ≡ Takes first p → (row : RowRead) (r : Stepped)
       → row_says row p.day id sender words ≡ checked reg (rows_of p id sender words)
       → Reads (settle first n (row_says row p.day id sender words)) (unit_of r.unit id sender words) (told r.said) → Judges r
-  judged-takes first p a h row r e s = rw (not-false all a, h, ← e) s
+  judged-takes first p a h row r e s = rw (a, h, ← e) s
 
   -- any other, and one whose rows are not all in
   judged-same : (r : Stepped) → r ≡ quietly unit
@@ -230,14 +229,14 @@ module _ (all : Bool) (reg : Bytes) (n : ℕ) (unit : KeptUnit) (id sender : Byt
   unfolding entries_of loads_of
   judged-same r e same = rw (e, same) (record { leaves = refl; entered = refl; none = refl })
 
-  pub judged_not : (r : Stepped) → not all ≡ true → r ≡ quietly unit → Judges r
-  judged_not r a e = judged-same r e (rw (not-true all a))
+  pub judged_not : (r : Stepped) → all ≡ false → r ≡ quietly unit → Judges r
+  judged_not r a e = judged-same r e (rw (a))
 
-  pub judged-none : (r : Stepped) → not all ≡ false → unit ≡ None → r ≡ quietly unit → Judges r
-  judged-none r a h e = judged-same r e (rw (not-false all a, h))
+  pub judged-none : (r : Stepped) → all ≡ true → unit ≡ None → r ≡ quietly unit → Judges r
+  judged-none r a h e = judged-same r e (rw (a, h))
 
-  pub judged-waits : (first last : ℕ) (w : Ready) (r : Stepped) → not all ≡ false → unit ≡ Waits first last w → r ≡ quietly unit → Judges r
-  judged-waits first last w r a h e = judged-same r e (rw (not-false all a, h))
+  pub judged-waits : (first last : ℕ) (w : Ready) (r : Stepped) → all ≡ true → unit ≡ Waits first last w → r ≡ quietly unit → Judges r
+  judged-waits first last w r a h e = judged-same r e (rw (a, h))
 
-  pub judged-skips : (r : Stepped) → not all ≡ false → unit ≡ Skips → r ≡ quietly unit → Judges r
-  judged-skips r a h e = judged-same r e (rw (not-false all a, h))
+  pub judged-skips : (r : Stepped) → all ≡ true → unit ≡ Skips → r ≡ quietly unit → Judges r
+  judged-skips r a h e = judged-same r e (rw (a, h))

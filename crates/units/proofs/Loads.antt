@@ -28,10 +28,10 @@ load_among meters days table l =
     (loaded table (cell_number meters days l.meter (channel_number l.channel) l.window_day) l.words) table
 
 -- the meters and days are those of the registry
-load_one : (reg : Bytes) (known : Known) → Counted reg known → (t : Words) (l : Load)
+load_one_lem : (reg : Bytes) (known : Known) → Counted reg known → (t : Words) (l : Load)
     → load_among known.count known.window.days t l ≡ load_all (rules_of reg) t (l ∷ [])
 unfolding load_among load_all load_one rules_of is_address
-load_one reg known h t l = rw (h.meters, h.days)
+load_one_lem reg known h t l = rw (h.meters, h.days)
 
 -- what a unit loads as it ends
 module _ (unit : KeptUnit) (known : Known) (words t : Words) where
@@ -54,7 +54,7 @@ module _ (unit : KeptUnit) (known : Known) (words t : Words) where
   module _ (first last : ℕ) (r : Ready) (h : unit ≡ Waits first last r) where
     among : (t' : Words) → t' ≡ load_among known.count known.window.days t (record_of r words).load → EndsTo t'
     unfolding close loads_of
-    among t' e reg id sender n k = rw h (e ∙ load_one reg known k t (record_of r words).load)
+    among t' e reg id sender n k = rw h (e ∙ load_one_lem reg known k t (record_of r words).load)
 
     pub load_in : (channel number : ℕ) (t' : Words) → r.meter < known.count → r.offset < known.window.days
         → (channel ≡ channel_number r.channel) × (channel < channels)

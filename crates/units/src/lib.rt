@@ -7,6 +7,7 @@
 // For whoever changes it: the rules are `step_kind` of plain/specs/Loader.antt, and `step` here goes by the same cases; that a line's two parts are all that
 // it does is `step-parts` of proofs/Kept.antt.
 #![tactic(auto)]
+
 ghost use Rattle.std.specs.Prelude.{◌≡◌, ℕ, suc, ◌≤◌, length};
 ghost use Rattle.text.specs.Byte.{Bytes};
 ghost use Rattle.text.specs.Identifier.{esi_id_size};

@@ -2,13 +2,13 @@
 -- Assumes nothing.
 use mathlib.Core.Path.{◌≡◌, sym, ◌∙◌}
 use mathlib.Core.List.{List, ◌++◌}
-use mathlib.Core.Bool.{Bool, true, false, not, ◌&&◌}
+use mathlib.Core.Bool.{Bool, true, false, ◌&&◌}
 use Prim.Native.Nat.{ℕ, ◌+◌, ◌-◌, ◌<◌, ◌≤◌}
 use native.Mathlib.Omega.{arith}
 use lib.Dec.{leb}
 use lib.ListN.{length, take, drop, length-append, length-drop}
 use lib.Seq.{take_at, length-take-le}
-use borrow.Author.Tests.{lt-ltb, le-ltb, leb-true, not-true, not-false}
+use borrow.Author.Tests.{lt-ltb, le-ltb, leb-true}
 use Rattle.calendar.specs.Day.{last_day}
 use Rattle.calendar.specs.Answer.{date_is}
 use Rattle.calendar.proofs.Laws.{date_is_lem}
@@ -117,28 +117,28 @@ module _ (reg : Bytes) (table : Words) (m c d : ℕ) (descriptor output : Bytes)
   no_cell_lem f number r x h e = refusal number r (writes-refused number (refused-cell f number x h)) e
 
   module _ (f : CellFound) (start : ℕ) (x : CellIs f table (sound_cell reg table m c d)) (h : f ≡ At start) (t : Bool) (et : t ≡ is_descriptor descriptor) where
-    writes-undescribed : not t ≡ true → writes reg table m c d descriptor output ≡ refused bad_descriptor
+    writes-undescribed : t ≡ false → writes reg table m c d descriptor output ≡ refused bad_descriptor
     unfolding writes written_record fitting
-    writes-undescribed n = rw (passed-cell f start x h, ← et, not-true t n)
+    writes-undescribed n = rw (passed-cell f start x h, ← et, n)
 
-    pub undescribed : (r : Written) → not t ≡ true → r ≡ record { number = bad_descriptor; length = 0 }
+    pub undescribed : (r : Written) → t ≡ false → r ≡ record { number = bad_descriptor; length = 0 }
         → (r ≡ answer (writes reg table m c d descriptor output)) × (output ≡ output_with output (writes reg table m c d descriptor output))
     undescribed r n e = refusal bad_descriptor r (writes-undescribed n) e
 
-    described : not t ≡ false → is_descriptor descriptor ≡ true
-    described n = sym et ∙ not-false t n
+    described : t ≡ true → is_descriptor descriptor ≡ true
+    described n = sym et ∙ n
 
-    writes-record : not t ≡ false → writes reg table m c d descriptor output ≡ fitting output (passed (cell_text reg m c d descriptor (words_at start)))
+    writes-record : t ≡ true → writes reg table m c d descriptor output ≡ fitting output (passed (cell_text reg m c d descriptor (words_at start)))
     unfolding writes written_record
     writes-record n = rw (passed-cell f start x h, described n)
 
-    pub cell-written : (last : Bytes) (r : Written) → not t ≡ false
+    pub cell-written : (last : Bytes) (r : Written) → t ≡ true
         → (r ≡ answer (fitting output (passed (cell_text reg m c d descriptor (words_at start)))))
         × (last ≡ output_with output (fitting output (passed (cell_text reg m c d descriptor (words_at start)))))
         → (r ≡ answer (writes reg table m c d descriptor output)) × (last ≡ output_with output (writes reg table m c d descriptor output))
     cell-written last r n p = (rw (writes-record n) p.0, rw (writes-record n) p.1)
 
-    pub writable : (index : Index) → Indexes reg index → not t ≡ false
+    pub writable : (index : Index) → Indexes reg index → t ≡ true
         → Writable reg index.meters index.owners index.count index.window m d descriptor (words_at start)
     unfolding is_name
     writable index i n =

@@ -6,6 +6,7 @@
 // For whoever changes it: the record's rows are specs/Record.antt, over rowtext/specs/Text.antt. It is put together in bytes of the call's own, so
 // its length is known before a byte of the output changes.
 #![tactic(auto)]
+
 ghost use Rattle.std.specs.Prelude.{◌≡◌, true, ◌<◌, ◌≤◌, ◌*◌, ◌+◌, length, get_or};
 ghost use Rattle.report.specs.Outcome.{passed};
 ghost use Rattle.details.specs.Detail.{per_row};

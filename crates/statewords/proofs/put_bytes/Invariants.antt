@@ -1,0 +1,13 @@
+-- What the loops of `statewords::put_bytes` keep, and why they end.
+use Prim.Native.Nat.{◌-◌, ◌≤◌}
+use mathlib.Core.Path.{◌≡◌}
+use lib.ListN.{length, take}
+use lib.Seq.{paste}
+use Rattle.statewords.specs.Layout.{bytes_in}
+use Rattle.statewords.proofs.put_bytes.Given as goal
+
+abbrev pub invariant-loop-i : goal.invariant-loop-i
+invariant-loop-i l = (l.i ≤ length l.from) × (length l.to ≡ length l.initial.to) × (l.to ≡ paste l.initial.to l.at l.from l.i) × (bytes_in (take l.i l.from) ≡ take l.i l.from)
+
+abbrev pub decreases-loop-i : goal.decreases-loop-i
+decreases-loop-i l = length l.from - l.i
