@@ -1,6 +1,6 @@
 /*
  * Kilnsorrel: loads LSE interval files into a settlement table, reports on each record, counts estimated
- * intervals, and writes a record. Link with libkilnsorrel.a (`rt staticlib kilnsorrel`).
+ * intervals, and writes a record. Link with libkilnsorrel.a (`rt lib` in crates/kilnsorrel).
  *
  * A file is streamed in pieces, cut anywhere, and then ended:
  *

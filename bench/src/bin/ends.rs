@@ -3,7 +3,7 @@
 //!
 //!     cargo run --release --manifest-path bench/Cargo.toml --bin ends [-- RUNS]
 //!
-//! The library's is ../target/bin/lseload, from bench/ on. The two take turns; medians are shown.
+//! The library's is ../crates/lseload/out/lseload, from bench/ on. The two take turns; medians are shown.
 
 use kilnsorrel_bench::rng::Rng;
 use kilnsorrel_bench::sample::{self, Values, World};
@@ -60,8 +60,8 @@ fn prepare() -> PathBuf {
 
 fn main() {
     let runs = std::env::args().nth(1).map_or(9, |n| n.parse().expect("a number of runs"));
-    let ours = Path::new(env!("CARGO_MANIFEST_DIR")).join("../target/bin/lseload");
-    let ours = ours.canonicalize().expect("target/bin/lseload: make it by `rt check lseload`");
+    let ours = Path::new(env!("CARGO_MANIFEST_DIR")).join("../crates/lseload/out/lseload");
+    let ours = ours.canonicalize().expect("crates/lseload/out/lseload: make it by `rt run` in crates/lseload");
     let theirs = std::env::current_exe().expect("a path").with_file_name("lseload");
     let folder = prepare();
     println!("| lseload, seconds | Kilnsorrel | fast Rust | ratio |");
