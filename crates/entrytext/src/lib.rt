@@ -1,7 +1,7 @@
 // The entries of a report as lines of text, for programs that print them.
 //
 //     let q = put_entries(&mut out, &report, i, count);      // the lines of entries i to i + q.entries, as many as there is room for
-//     io::write_all(1, &out[0..q.end]);
+//     rt.write_all(&out[0..q.end])?;
 //
 // For whoever changes it: a line is `line_of` of specs/Listing.antt. Nothing here writes anywhere but into the lent bytes.
 #![tactic(auto)]
