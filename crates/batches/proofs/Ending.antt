@@ -23,12 +23,12 @@ use Rattle.plain.specs.Loader.{OpenUnit, Event, close, step_kind, step_line, ent
 use Rattle.plain.specs.Call.{finish, fresh as freshly}
 use Rattle.plain.specs.Promise.{view_from}
 use Rattle.plain.proofs.Pieces.{entries-append, loads-append, load_all-append}
-use Rattle.records.specs.Answer.{Indexed}
+use Rattle.records.specs.Answer.{Sized, Indexed}
 use Rattle.units.specs.declared.Said.{Said}
 use Rattle.units.specs.declared.LineRead.{LineRead}
 use Rattle.units.specs.Answer.{unit_of, told, told_by, Tells, Does, HasRoom, Counted}
 use Rattle.units.proofs.Loads.{index_counts}
-use Rattle.pieces.specs.Ran.{batch_words}
+use Rattle.pieces.specs.Ran.{Holds, batch_words}
 use Rattle.state.specs.declared.State.{State}
 use Rattle.batches.specs.declared.Batch.{Batch}
 use Rattle.state.specs.View.{view_of}
@@ -70,6 +70,10 @@ lines_more lines (suc held) some = add-one lines
 pub end-indexed : (reg : Bytes) (index : Index) → Indexes reg index → Indexed reg index.meters index.owners (known_by index)
 end-indexed reg index h =
     record { meter_places = h.meters; owner_places = h.owners; most = h.most; short = h.days; windowed = h.window }
+
+pub end-holds : (s : State) → HoldsIn s 0 → length s.kept ≡ kept_limit → Sized s.id s.sender s.words
+    → Holds s.kept s.held s.lines s.unit s.id s.sender s.words 0
+end-holds s h long sized = record { kept_sized = long; few = h.few; sized = sized; details = h.details; fits = h.fits }
 
 -- what `put` says
 abbrev Put : ℕ → Words → Said → ℕ → Words → Type 0

@@ -1,8 +1,8 @@
 -- What holds of every registry: its window, how many meters it has and of what form, in ascending order.
 -- Assumes nothing.
-use mathlib.Core.Path.{◌≡◌, refl}
+use mathlib.Core.Path.{◌≡◌, refl, sym}
 use mathlib.Core.List.{List, [], ◌∷◌}
-use mathlib.Core.Bool.{true}
+use mathlib.Core.Bool.{true, false}
 use mathlib.Core.Option.{Option, none, some}
 use Prim.Native.Nat.{ℕ, zero, suc, ◌+◌, ◌≤◌, ◌<◌}
 use native.Mathlib.Omega.{arith}
@@ -16,7 +16,7 @@ use Rattle.padded.specs.Padding.{is_padded_esi_id, is_padded_duns}
 use Rattle.padded.specs.declared.order.Order.TheVariants.{Less}
 use Rattle.padded.proofs.Bytewise.{order_trans}
 use Rattle.registry.specs.Entry.{window_size, owner_size, all_flags, start_of}
-use Rattle.registry.specs.Registry.{Meter, Seen, max_meters, none_seen, entries, start_with, registry_of, is_some, window_in, is_registry, meters_of, window_is}
+use Rattle.registry.specs.Registry.{Registry, Meter, Seen, max_meters, none_seen, entries, start_with, registry_of, is_some, meters_in, no_window, window_in, is_registry, meters_of, window_is}
 use Rattle.registry.specs.Index.{no_meter, meter_at}
 use Rattle.registry.specs.declared.entry.Start.{Start}
 use Rattle.registry.specs.declared.entry.Start.TheVariants.{From, NoWindow}
@@ -24,6 +24,24 @@ use Rattle.registry.proofs.Opening.{Kept, start-kept}
 use Rattle.registry.proofs.Reading.{Read, end, owner, meter, OwnerBody, meters-read}
 
 -- ---- WHERE A RULE IS BROKEN there is no meter and no window.
+
+-- ---- WHERE A RULE IS BROKEN there is no meter and no window.
+
+pub unsound_meters : (reg : Bytes) → is_registry reg ≡ false → meters_of reg ≡ []
+unfolding is_registry meters_of
+unsound_meters reg = go (registry_of reg)
+  where
+    go : (x : Option Registry) → is_some x ≡ false → meters_in x ≡ []
+    go none e = refl
+    go (some r) e = absurd (apart (sym e))
+
+pub unsound-window : (reg : Bytes) → is_registry reg ≡ false → window_is reg ≡ no_window
+unfolding is_registry window_is
+unsound-window reg = go (registry_of reg)
+  where
+    go : (x : Option Registry) → is_some x ≡ false → window_in x ≡ no_window
+    go none e = refl
+    go (some r) e = absurd (apart (sym e))
 
 -- ---- WHERE NONE IS, the window has 1 to 62 days, up to 20991231.
 
@@ -42,6 +60,9 @@ read-most : (s : Seen) (ms : List Meter) → Read s ms → s.count ≤ max_meter
 read-most s ms end h = omega arith
 read-most s ms (owner b o r) h = read-most _ _ r h
 read-most s ms (meter b m o r) h = omega (arith, read-most _ _ r (omega (arith, o.room)))
+
+pub meters-most : (reg : Bytes) → length (meters_of reg) ≤ max_meters
+meters-most reg = omega (arith, read-most none_seen (meters_of reg) (meters-read reg) (omega arith))
 
 -- ---- THE FORM OF A METER
 
