@@ -3,8 +3,8 @@
 
 usage: respell.py [FOLDER]
 
-FOLDER is the top of a checkout that the kit's port.py has turned. `isDigit` becomes `is_digit`, `LF` and `CR` become `lf` and `cr`, `NoLF` becomes
-`NoLf`. A dash in a name of a lemma stays where it joins the names of two definitions (`digits_of-append`), and is `_` where it joins words
+FOLDER is the top of a checkout that the kit's port.py has turned. `isDigit` becomes `is_digit`, `NoLF` becomes `NoLf`; `LF` and `CR`, the
+source's constants, keep theirs. A dash in a name of a lemma stays where it joins the names of two definitions (`digits_of-append`), and is `_` where it joins words
 (`walk_owner`). Source names, strings, inputs and outputs keep theirs. A name that stands in an import from the kit is left alone in that file.
 Generated proofs (`proofs/F/Proof.antt`) are renamed in what they cite. It prints names that would fall together and then writes nothing.
 """
