@@ -1,7 +1,7 @@
 // What the programs print, on standard output.
 #![tactic(auto)]
 
-ghost use Rattle.std.specs.Prelude.{◌*◌, ◌≤◌, length};
+ghost use Rattle.std.specs.Prelude.{◌+◌, ◌*◌, ◌<◌, ◌≤◌, length};
 ghost use Rattle.report.specs.Words.{per_entry};
 
 use entrytext::put_entries;
@@ -26,9 +26,11 @@ pub fn refused(rt: &impl Print, n: u32) -> io::Result<()> {
     number(rt, n as u64, b"\n")
 }
 
-// No more entries than a report has words for.
+// How many of so many entries a report has words for.
 fn entries_in(report: &[u32], count: usize) -> usize
-    ensures { result * per_entry ≤ length report.now }
+    ensures asked { result ≤ count }
+    ensures within { result * per_entry ≤ length report.now }
+    ensures all { result < count → length report.now < (result + 1) * per_entry }
 {
     let most = report.len() / PER_ENTRY;
     if count < most {
