@@ -1,6 +1,8 @@
 -- What a call returns, by document 01's numbers ("What a call returns").
 -- Assumes nothing.
 use Rattle.std.specs.Prelude.{ℕ}
+use Rattle.report.specs.declared.refusal.Refusal.{Refusal}
+use Rattle.report.specs.declared.refusal.Refusal.TheVariants.{BadState, BadRegistry, ShortTable, ShortReport, TooManyBytes, NoCell, EmptyCell, UnsoundCell, BadDescriptor, ShortOutput}
 
 abbrev pub done : ℕ
 done = 0
@@ -44,3 +46,16 @@ bad_descriptor = 9
 -- the output is shorter than the record
 abbrev pub short_output : ℕ
 short_output = 10
+
+-- a refusal's number
+abbrev pub refusal_number : Refusal → ℕ
+refusal_number BadState = bad_state
+refusal_number BadRegistry = bad_registry
+refusal_number ShortTable = short_table
+refusal_number ShortReport = short_report
+refusal_number TooManyBytes = too_many_bytes
+refusal_number NoCell = no_cell
+refusal_number EmptyCell = empty_cell
+refusal_number UnsoundCell = unsound_cell
+refusal_number BadDescriptor = bad_descriptor
+refusal_number ShortOutput = short_output

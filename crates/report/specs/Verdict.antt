@@ -1,6 +1,8 @@
 -- The verdicts, by document 01's numbers ("What a call returns").
 -- Assumes nothing.
 use Rattle.std.specs.Prelude.{ℕ}
+use Rattle.report.specs.declared.verdict.Verdict.{Verdict}
+use Rattle.report.specs.declared.verdict.Verdict.TheVariants.{Stray, Short, Surplus, Long, WrongCode, WrongCount, Misfit, NotBelow, NotOneDay, WrongStatus, Negative, TooFine, NoValue, UnknownMeter, NotOwner, ReadByErcot, NoIntervalData, NotIdr, OutsideWindow}
 
 -- the record is loaded
 abbrev pub loaded : ℕ
@@ -79,3 +81,25 @@ not_idr = 34
 -- the day is outside the window
 abbrev pub outside_window : ℕ
 outside_window = 35
+
+-- a verdict's number
+abbrev pub verdict_number : Verdict → ℕ
+verdict_number Stray = stray
+verdict_number Short = short
+verdict_number Surplus = surplus
+verdict_number Long = long
+verdict_number WrongCode = wrong_code
+verdict_number WrongCount = wrong_count
+verdict_number Misfit = misfit
+verdict_number NotBelow = not_below
+verdict_number NotOneDay = not_one_day
+verdict_number WrongStatus = wrong_status
+verdict_number Negative = negative
+verdict_number TooFine = too_fine
+verdict_number NoValue = no_value
+verdict_number UnknownMeter = unknown_meter
+verdict_number NotOwner = not_owner
+verdict_number ReadByErcot = read_by_ercot
+verdict_number NoIntervalData = no_interval_data
+verdict_number NotIdr = not_idr
+verdict_number OutsideWindow = outside_window

@@ -10,6 +10,9 @@ entry_of first verdict at meter day = record { first = first; verdict = verdict;
 abbrev pub per_entry : ℕ
 per_entry = 5
 
+abbrev pub words_of : Entry → List ℕ
+words_of e = e.first ∷ e.verdict ∷ e.at ∷ e.meter ∷ e.day ∷ []
+
 abbrev pub entry_at : List ℕ → ℕ → Entry
 entry_at w n =
     entry_of (get_or w (n * per_entry) 0) (get_or w (n * per_entry + 1) 0) (get_or w (n * per_entry + 2) 0) (get_or w (n * per_entry + 3) 0)

@@ -11,7 +11,7 @@ pub mod verdict;
 pub mod words;
 
 // One unit's verdict in the report: its first line, the verdict, the deciding line, the meter (1 upward; 0 unknown), the day as YYYYMMDD (0 unknown).
-#[derive(Clone, Copy)]
+#[derive(Clone, Copy, Debug, PartialEq, Eq)]
 pub struct Entry {
     pub first: u32,
     pub verdict: u32,

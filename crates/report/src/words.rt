@@ -1,10 +1,18 @@
 // Entries as words, five each.
 ghost use Rattle.std.specs.Prelude.{◌≡◌, [], ◌∷◌, ◌++◌, ◌+◌, ◌*◌, ◌<◌, length};
-ghost use Rattle.report.specs.Words.{per_entry, entry_at, first_entries};
+ghost use Rattle.report.specs.Words.{per_entry, entry_at, first_entries, words_of};
 
 use crate::Entry;
 
 pub const PER_ENTRY: usize = 5;
+
+impl From<Entry> for [u32; PER_ENTRY] {
+    ghost from_gives = { λ e words. words ≡ words_of e };
+
+    fn from(e: Entry) -> [u32; PER_ENTRY] {
+        [e.first, e.verdict, e.at, e.meter, e.day]
+    }
+}
 
 // Puts an entry behind the first n.
 pub fn put_entry(out: &mut [u32], n: usize, e: Entry)
@@ -12,11 +20,8 @@ pub fn put_entry(out: &mut [u32], n: usize, e: Entry)
     ensures { (first_entries (n + 1) out.new ≡ first_entries n out.old ++ (e ∷ [])) × (length out.new ≡ length out.old) }
 {
     let i = n * PER_ENTRY;
-    out[i] = e.first;
-    out[i + 1] = e.verdict;
-    out[i + 2] = e.at;
-    out[i + 3] = e.meter;
-    out[i + 4] = e.day;
+    let words = <[u32; PER_ENTRY]>::from(e);
+    out[i..i + PER_ENTRY].copy_from_slice(&words);
 }
 
 // Entry n, from 0.
