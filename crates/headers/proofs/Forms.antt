@@ -21,9 +21,7 @@ use Rattle.text.proofs.Comma.{cut-head, cut-more, cut_at, field-drop, field-with
 use Rattle.report.specs.Outcome.{passed, refused}
 use Rattle.lines.specs.Row.{fields_of}
 use Rattle.report.specs.Verdict.{misfit}
-use Rattle.lines.specs.Answer.{line_of, begun_says}
-use Rattle.lines.specs.declared.row.Begun.{Begun}
-use Rattle.lines.specs.declared.row.Begun.TheVariants.{Fields}
+use Rattle.headers.specs.declared.two.Form.TheVariants.{Code}
 use Rattle.headers.specs.Two.{decimal_parts, is_decimal, up_to_digits, is_unit_code, is_zone_count, fits_form, row_two_forms, fit_all, has_multiplier, two_of, row_two}
 
 -- a test of the number that n digits at most write; r says whether they are digits
@@ -67,48 +65,6 @@ module _ (f : Bytes) (w : ℕ) (run : w ≡ length (leading f)) where
   unfolding is_decimal decimal_parts
   decimal-point p r h ep er = rw (tail, left-cons f w (run_stops f w run h), lead, er, ep)
 
--- the forms by their codes
-module _ (p : ℕ) (f : Bytes) where
-  pub form_code : p ≡ 0 → true ≡ fits_form p f
-  unfolding fits_form
-  form_code h = rw h
-
-  pub form_decimal : (a b : Bool) → p ≡ 1 → a ≡ is_empty f → b ≡ is_decimal f → (a || b) ≡ fits_form p f
-  unfolding fits_form
-  form_decimal a b h ea eb = rw (h, ea, eb)
-
-  pub form_empty : (a : Bool) → p ≡ 2 → a ≡ is_empty f → a ≡ fits_form p f
-  unfolding fits_form
-  form_empty a h ea = rw (h, ea)
-
-  pub form_seconds : (a : Bool) → p ≡ 3 → a ≡ equals f (ascii "900") → a ≡ fits_form p f
-  unfolding fits_form
-  form_seconds a h ea = rw (h, ea)
-
-  pub form_unit : (a : Bool) → p ≡ 4 → a ≡ equals f (ascii "01") → a ≡ fits_form p f
-  unfolding fits_form
-  form_unit a h ea = rw (h, ea)
-
-  pub form_code_unit : (a b : Bool) → p ≡ 5 → a ≡ is_empty f → b ≡ is_unit_code f → (a || b) ≡ fits_form p f
-  unfolding fits_form
-  form_code_unit a b h ea eb = rw (h, ea, eb)
-
-  pub form_zones : (a b d : Bool) → p ≡ 6 → a ≡ is_empty f → b ≡ equals f (ascii "-1") → d ≡ is_zone_count f → (a || b || d) ≡ fits_form p f
-  unfolding fits_form
-  form_zones a b d h ea eb ed = rw (h, ea, eb, ed)
-
-pub form_name : (p : ℕ) (f : Bytes) (r : Bool) → (p ≡ 0 → ⊥) → (p ≡ 1 → ⊥) → (p ≡ 2 → ⊥) → (p ≡ 3 → ⊥) → (p ≡ 4 → ⊥) → (p ≡ 5 → ⊥) → (p ≡ 6 → ⊥)
-    → r ≡ equals f (ascii "CST") → r ≡ fits_form p f
-unfolding fits_form
-form_name zero f r h0 h1 h2 h3 h4 h5 h6 e = absurd (h0 refl)
-form_name (suc zero) f r h0 h1 h2 h3 h4 h5 h6 e = absurd (h1 refl)
-form_name (suc (suc zero)) f r h0 h1 h2 h3 h4 h5 h6 e = absurd (h2 refl)
-form_name (suc (suc (suc zero))) f r h0 h1 h2 h3 h4 h5 h6 e = absurd (h3 refl)
-form_name (suc (suc (suc (suc zero)))) f r h0 h1 h2 h3 h4 h5 h6 e = absurd (h4 refl)
-form_name (suc (suc (suc (suc (suc zero))))) f r h0 h1 h2 h3 h4 h5 h6 e = absurd (h5 refl)
-form_name (suc (suc (suc (suc (suc (suc zero)))))) f r h0 h1 h2 h3 h4 h5 h6 e = absurd (h6 refl)
-form_name (suc (suc (suc (suc (suc (suc (suc p))))))) f r h0 h1 h2 h3 h4 h5 h6 e = e
-
 -- THE WALK: rest is what field k begins
 next_field : (fs : List Bytes) (k : ℕ) (rest : Bytes) → drop k fs ≡ cut rest → drop k fs ≡ first_field rest ∷ drop (k + 1) fs
 next_field fs k rest e =
@@ -121,29 +77,25 @@ next-rest fs k rest e h =
     let l : 1 < length (cut rest) = rw (← e) (simp length-drop (omega arith)) in
     sym (drop-drop 1 k fs) ∙ ap (drop 1) (e ∙ cut-more rest l)
 
-next-form : (k : ℕ) → k < 14 → drop k row_two_forms ≡ get_or row_two_forms k 0 ∷ drop (k + 1) row_two_forms
-next-form k h = rw (add-one, drop-cons row_two_forms k 0 h)
+next-form : (k : ℕ) → k < 14 → drop k row_two_forms ≡ get_or row_two_forms k Code ∷ drop (k + 1) row_two_forms
+next-form k h = rw (add-one, drop-cons row_two_forms k Code h)
 
-module _ (line : Bytes) (k at : ℕ) (long : length (cut line) ≡ 14) (so_far : fit_all row_two_forms (cut line) ≡ fit_all (drop k row_two_forms) (drop k (cut line)))
-    (here : k < 14 → drop k (cut line) ≡ cut (drop at line)) where
-  module _ (h : k < 14) (f rest : Bytes) (er : rest ≡ drop at line) (ef : f ≡ first_field rest) where
+module _ (line rest : Bytes) (k : ℕ) (long : length (cut line) ≡ 14) (so_far : fit_all row_two_forms (cut line) ≡ fit_all (drop k row_two_forms) (drop k (cut line)))
+    (here : k < 14 → drop k (cut line) ≡ cut rest) where
+  module _ (h : k < 14) (f : Bytes) (ef : f ≡ first_field rest) (r : Bool) (e : r ≡ fits_form (get_or row_two_forms k Code) f) where
     there : drop k (cut line) ≡ f ∷ drop (k + 1) (cut line)
-    there = next_field (cut line) k rest (here h ∙ ap cut (sym er)) ∙ rw ef
+    there = next_field (cut line) k rest (here h) ∙ rw ef
 
-    module _ (p : ℕ) (ep : p ≡ get_or row_two_forms k 0) (r : Bool) (e : r ≡ fits_form p f) where
-      pub walk_ends : r ≡ false → false ≡ fit_all row_two_forms (cut line)
-      unfolding fit_all
-      walk_ends t = sym (so_far ∙ rw (next-form k h, there, ← ep, ← e, t))
+    pub walk_ends : r ≡ false → false ≡ fit_all row_two_forms (cut line)
+    unfolding fit_all
+    walk_ends t = sym (so_far ∙ rw (next-form k h, there, ← e, t))
 
-      pub walk_on : r ≡ true → fit_all row_two_forms (cut line) ≡ fit_all (drop (k + 1) row_two_forms) (drop (k + 1) (cut line))
-      unfolding fit_all
-      walk_on t = so_far ∙ rw (next-form k h, there, ← ep, ← e, t)
+    pub walk_on : r ≡ true → fit_all row_two_forms (cut line) ≡ fit_all (drop (k + 1) row_two_forms) (drop (k + 1) (cut line))
+    unfolding fit_all
+    walk_on t = so_far ∙ rw (next-form k h, there, ← e, t)
 
-    pub walk_next : k + 1 < 14 → drop (k + 1) (cut line) ≡ cut (drop (at + length f + 1) line)
-    walk_next g =
-        let n : at + (length f + 1) ≡ at + length f + 1 = omega arith in
-        next-rest (cut line) k rest (here h ∙ ap cut (sym er)) (omega arith)
-        ∙ ap cut (sym (field-drop rest) ∙ rw (← ef, er) (drop-drop (length f + 1) at line ∙ ap (λ x. drop x line) n))
+  pub walk_next : (h : k < 14) (next : Bytes) → next ≡ after_field rest → k + 1 < 14 → drop (k + 1) (cut line) ≡ cut next
+  walk_next h next e g = next-rest (cut line) k rest (here h) (omega arith) ∙ rw e
 
   pub walk_done : k ≤ 14 → 14 ≤ k → true ≡ fit_all row_two_forms (cut line)
   unfolding fit_all
@@ -151,23 +103,9 @@ module _ (line : Bytes) (k at : ℕ) (long : length (cut line) ≡ 14) (so_far :
       let e : k ≡ 14 = omega arith in
       sym (so_far ∙ rw (e, drop_of_length-le (cut line) (le_of_eq long)))
 
-pub field-short : (f rest line : Bytes) (n : ℕ) → rest ≡ drop n line → f ≡ first_field rest → length f ≤ length line
-field-short f rest line n er ef = omega (arith, ap length ef, field-within rest, ap length er ∙ length-drop n line)
-
 -- FIELD 4: start, stop and multiplier are fields 2 to 4
 pub multiplier_right : (line rest₂ start rest₃ stop rest₄ multiplier : Bytes) (a b d : Bool) → length (cut line) ≡ 14
     → rest₂ ≡ after_field line → start ≡ first_field rest₂ → rest₃ ≡ after_field rest₂ → stop ≡ first_field rest₃ → rest₄ ≡ after_field rest₃ → multiplier ≡ first_field rest₄
     → a ≡ is_empty start → b ≡ is_empty stop → d ≡ is_empty multiplier → (a || b || not d) ≡ has_multiplier (cut line)
 multiplier_right line rest₂ start rest₃ stop rest₄ multiplier a b d long a2 e2 a3 e3 a4 e4 ha hb hd =
     rw (cut_at 1 line (omega arith), cut_at 2 line (omega arith), cut_at 3 line (omega arith), ← a2, ← a3, ← a4, ← e2, ← e3, ← e4, ← ha, ← hb, ← hd)
-
--- the row, behind its code
-module _ (line : Bytes) (cr : Bool) (b : Begun) (eb : begun_says b line ≡ fields_of (ascii "00000002") 14 (line_of line cr)) (hb : b ≡ Fields)
-    (p q : Bool) (ep : p ≡ fit_all row_two_forms (cut line)) (eq : q ≡ has_multiplier (cut line)) where
-  pub two-passed : (p && q) ≡ true → passed tt ≡ row_two (line_of line cr)
-  unfolding row_two two_of
-  two-passed h = rw (← eb, hb, ← ep, ← eq, h)
-
-  pub two-refused : (p && q) ≡ false → refused misfit ≡ row_two (line_of line cr)
-  unfolding row_two two_of
-  two-refused h = rw (← eb, hb, ← ep, ← eq, h)

@@ -1,6 +1,6 @@
 -- Laws of the definitions, by subject; each function's proof cites them.
 pub mod Moment
-pub mod Span
+pub mod Rows
 pub mod Forms
 pub mod Pairs
 pub mod Passed

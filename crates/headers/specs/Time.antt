@@ -35,11 +35,14 @@ time_of f = do
   require (is_time f) misfit
   passed (record { date = date_text f; clock = clock_text f })
 
+abbrev pub stamp_at : Time → Stamp
+stamp_at time = record { date = time.date; clock = time.clock }
+
 -- a read's stamp, which settles which read of a day wins
 unfoldable pub stamp_of : Bytes → Outcome Stamp
 stamp_of f = do
   time ← time_of f
-  passed (record { date = time.date; clock = time.clock })
+  passed (stamp_at time)
 
 -- the 14 digits as one number
 abbrev pub moment : Time → ℕ

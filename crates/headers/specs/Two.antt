@@ -1,6 +1,6 @@
 -- Row two: fourteen fields, each of a form. Document 01, "Rows".
 -- Assumes nothing.
-use Rattle.std.specs.Prelude.{List, [], ◌∷◌, Bool, true, false, not, ◌&&◌, ◌||◌, ℕ, zero, suc, eqb, leb, length}
+use Rattle.std.specs.Prelude.{List, [], ◌∷◌, Bool, true, false, not, ◌&&◌, ◌||◌, ℕ, eqb, leb, length}
 use Prim.Native.Char.{code}
 use Rattle.text.specs.Byte.{Bytes, ascii, is_digit, is_empty, every, equals}
 use Rattle.text.specs.Number.{number, leading, behind}
@@ -8,6 +8,8 @@ use Rattle.lines.specs.Line.{Line}
 use Rattle.report.specs.Outcome.{Outcome, require, ◌>>=◌}
 use Rattle.lines.specs.Row.{fields_of, ◌!◌}
 use Rattle.report.specs.Verdict.{misfit}
+use Rattle.headers.specs.declared.two.Form.{Form}
+use Rattle.headers.specs.declared.two.Form.TheVariants.{Code, Decimal, Empty, Seconds, Unit as UnitForm, UnitCode, ZoneCount, ZoneName}
 
 -- a decimal: 1 to 15 digits, optionally a point and 1 to 4 digits
 unfoldable pub decimal_parts : Bytes → Bytes → Bool
@@ -30,24 +32,24 @@ is_unit_code f = up_to_digits 4 f && not (eqb (number f) 0)
 abbrev pub is_zone_count : Bytes → Bool
 is_zone_count f = up_to_digits 2 f && leb (number f) 47
 
--- The forms by their codes: 0 the row's code, which 13 has tested; 1 empty or a decimal; 2 empty; 3 `900`; 4 `01`;
--- 5 empty or 1 to 4 digits, not zero; 6 empty, `-1`, or 1 to 2 digits up to 47; 7 `CST`.
-unfoldable pub fits_form : ℕ → Bytes → Bool
-fits_form zero f = true
-fits_form (suc zero) f = is_empty f || is_decimal f
-fits_form (suc (suc zero)) f = is_empty f
-fits_form (suc (suc (suc zero))) f = equals f (ascii "900")
-fits_form (suc (suc (suc (suc zero)))) f = equals f (ascii "01")
-fits_form (suc (suc (suc (suc (suc zero))))) f = is_empty f || is_unit_code f
-fits_form (suc (suc (suc (suc (suc (suc zero)))))) f = is_empty f || equals f (ascii "-1") || is_zone_count f
-fits_form (suc (suc (suc (suc (suc (suc (suc n))))))) f = equals f (ascii "CST")
+-- `Code` is the row's code, which 13 has tested
+unfoldable pub fits_form : Form → Bytes → Bool
+fits_form Code f = true
+fits_form Decimal f = is_empty f || is_decimal f
+fits_form Empty f = is_empty f
+fits_form Seconds f = equals f (ascii "900")
+fits_form UnitForm f = equals f (ascii "01")
+fits_form UnitCode f = is_empty f || is_unit_code f
+fits_form ZoneCount f = is_empty f || equals f (ascii "-1") || is_zone_count f
+fits_form ZoneName f = equals f (ascii "CST")
 
 -- the forms of fields 1 to 14
-abbrev pub row_two_forms : List ℕ
-row_two_forms = 0 ∷ 1 ∷ 1 ∷ 1 ∷ 2 ∷ 1 ∷ 2 ∷ 3 ∷ 4 ∷ 5 ∷ 6 ∷ 1 ∷ 1 ∷ 7 ∷ []
+abbrev pub row_two_forms : List Form
+row_two_forms =
+    Code ∷ Decimal ∷ Decimal ∷ Decimal ∷ Empty ∷ Decimal ∷ Empty ∷ Seconds ∷ UnitForm ∷ UnitCode ∷ ZoneCount ∷ Decimal ∷ Decimal ∷ ZoneName ∷ []
 
 -- field for field
-unfoldable pub fit_all : List ℕ → List Bytes → Bool
+unfoldable pub fit_all : List Form → List Bytes → Bool
 fit_all [] [] = true
 fit_all [] (f ∷ fields) = false
 fit_all (form ∷ forms) [] = false

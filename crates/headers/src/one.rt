@@ -1,118 +1,82 @@
 // Row one: ESI ID, channel, and the day that start and stop span.
 ghost use Rattle.std.specs.Prelude.{◌≡◌, length};
-ghost use Rattle.text.specs.Field.{cut, field_at};
+ghost use Rattle.text.specs.Field.{cut};
+ghost use Rattle.report.specs.Outcome.{says};
 ghost use Rattle.headers.specs.One.{channel_of, day_of, one_of, row_one};
 ghost use Rattle.lines.specs.Answer.{line_of};
-ghost use Rattle.headers.specs.Answer.{channel_says, day_says, one_says};
+ghost use Rattle.headers.specs.Answer.{one_says};
 
-use crate::time::{TimeRead, is_below, is_whole_day, read_time};
-use lines::row::{Begun, Place, begin, start_of};
-use report::verdict::{MISFIT, NOT_BELOW, NOT_ONE_DAY};
+use crate::time::{is_below, is_whole_day, read_time};
+use lines::row::begin;
+use report::verdict::{Verdict, require};
 use text::bytes::same;
 use text::fields::{after, field};
 use text::names::is_esi_id;
 
-#[derive(Clone, Copy)]
+#[derive(Clone, Copy, Debug, PartialEq, Eq)]
 pub enum Channel {
     Load,
     Generation,
 }
 
-// The place of the ESI ID, the channel, and the day YYYYMMDD; or the verdict.
+// The ESI ID, the channel, and the day YYYYMMDD.
 #[derive(Clone, Copy)]
-pub enum One {
-    Passed(Place, Channel, u32),
-    Refused(u32),
+pub struct One<'a> {
+    pub id: &'a [u8],
+    pub channel: Channel,
+    pub day: u32,
 }
 
-#[derive(Clone, Copy)]
-pub enum ChannelRead {
-    Is(Channel),
-    Other,
-}
-
-#[derive(Clone, Copy)]
-pub enum DayRead {
-    Date(u32),
-    Refused(u32),
-}
-
-pub fn read_channel(f: &[u8]) -> ChannelRead
-    ensures { channel_says result ≡ channel_of f.now }
+pub fn read_channel(f: &[u8]) -> Result<Channel, Verdict>
+    ensures { says result ≡ channel_of f.now }
 {
     if same(f, b"1") {
-        return ChannelRead::Is(Channel::Generation);
+        return Ok(Channel::Generation);
     }
     if same(f, b"4") {
-        return ChannelRead::Is(Channel::Load);
+        return Ok(Channel::Load);
     }
-    ChannelRead::Other
+    Err(Verdict::Misfit)
 }
 
-// Start, stop, `Y` and `N`: the first four fields of the rest of a line.
-fn read_day(rest: &[u8]) -> DayRead
-    ensures { day_says result ≡ day_of (field_at 0 rest.now) (field_at 1 rest.now) (field_at 2 rest.now) (field_at 3 rest.now) }
+// Start, stop, `Y` and `N`.
+fn read_day(start: &[u8], stop: &[u8], yes: &[u8], no: &[u8]) -> Result<u32, Verdict>
+    ensures { says result ≡ day_of start.now stop.now yes.now no.now }
 {
-    let start = field(rest);
-    let rest5 = after(rest, start);
+    let from = read_time(start)?;
+    let to = read_time(stop)?;
+    require(same(yes, b"Y"), Verdict::Misfit)?;
+    require(same(no, b"N"), Verdict::Misfit)?;
+    require(is_below(from, to), Verdict::NotBelow)?;
+    require(is_whole_day(from, to), Verdict::NotOneDay)?;
+    Ok(from.date)
+}
+
+// The fields behind the code.
+fn read_fields(line: &[u8]) -> Result<One<'_>, Verdict>
+    requires { length (cut line.now) ≡ 7 }
+    ensures { one_says result ≡ one_of (cut line.now) }
+{
+    let rest2 = after(line, field(line));
+    let id = field(rest2);
+    let rest3 = after(rest2, id);
+    let third = field(rest3);
+    let rest4 = after(rest3, third);
+    let start = field(rest4);
+    let rest5 = after(rest4, start);
     let stop = field(rest5);
     let rest6 = after(rest5, stop);
     let yes = field(rest6);
     let no = field(after(rest6, yes));
-    let TimeRead::At(from) = read_time(start) else {
-        return DayRead::Refused(MISFIT);
-    };
-    let TimeRead::At(to) = read_time(stop) else {
-        return DayRead::Refused(MISFIT);
-    };
-    if !same(yes, b"Y") {
-        return DayRead::Refused(MISFIT);
-    }
-    if !same(no, b"N") {
-        return DayRead::Refused(MISFIT);
-    }
-    if !is_below(from, to) {
-        return DayRead::Refused(NOT_BELOW);
-    }
-    if !is_whole_day(from, to) {
-        return DayRead::Refused(NOT_ONE_DAY);
-    }
-    DayRead::Date(from.date)
+    require(is_esi_id(id), Verdict::Misfit)?;
+    let channel = read_channel(third)?;
+    let day = read_day(start, stop, yes, no)?;
+    Ok(One { id, channel, day })
 }
 
-// The fields behind the code.
-fn read_fields(line: &[u8]) -> One
-    requires { length (cut line.now) ≡ 7 }
-    ensures { one_says result line.now ≡ one_of (cut line.now) }
+pub fn read_one(line: &[u8], cr: bool) -> Result<One<'_>, Verdict>
+    ensures { one_says result ≡ row_one (line_of line.now cr) }
 {
-    let rest2 = after(line, field(line));
-    let id = field(rest2);
-    if !is_esi_id(id) {
-        return One::Refused(MISFIT);
-    }
-    let rest3 = after(rest2, id);
-    let third = field(rest3);
-    let ChannelRead::Is(channel) = read_channel(third) else {
-        return One::Refused(MISFIT);
-    };
-    match read_day(after(rest3, third)) {
-        DayRead::Refused(verdict) => One::Refused(verdict),
-        DayRead::Date(day) => One::Passed(
-            Place {
-                at: start_of(line, rest2),
-                len: id.len(),
-            },
-            channel,
-            day,
-        ),
-    }
-}
-
-pub fn read_one(line: &[u8], cr: bool) -> One
-    ensures { one_says result line.now ≡ row_one (line_of line.now cr) }
-{
-    match begin(line, cr, b"00000001", 7) {
-        Begun::Refused(verdict) => One::Refused(verdict),
-        Begun::Fields => read_fields(line),
-    }
+    begin(line, cr, b"00000001", 7)?;
+    read_fields(line)
 }

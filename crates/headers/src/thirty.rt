@@ -7,20 +7,13 @@ ghost use Rattle.headers.specs.Thirty.{has_duns, ends_thirty, thirty_of, row_thi
 ghost use Rattle.lines.specs.Answer.{line_of};
 ghost use Rattle.headers.specs.Answer.{thirty_says};
 
-use lines::row::{Begun, Place, begin, start_of};
-use report::verdict::MISFIT;
+use lines::row::begin;
+use report::verdict::{Verdict, require};
 use text::bytes::{begins, same};
 use text::fields::{after, behind, field};
 use text::names::is_duns;
 
 const SENDER_NAME_SIZE: usize = 7;
-
-// The place of the Sender's number, or the verdict.
-#[derive(Clone, Copy)]
-pub enum Thirty {
-    Passed(Place),
-    Refused(u32),
-}
 
 // Whether a field is a name with its DUNS number.
 fn has_duns(f: &[u8], name: &[u8]) -> bool
@@ -39,9 +32,9 @@ fn ends_row(rest: &[u8]) -> bool
 }
 
 // The fields behind the code.
-fn read_fields(line: &[u8]) -> Thirty
+fn read_fields(line: &[u8]) -> Result<&[u8], Verdict>
     requires { Due (ascii "00000030") 6 line.now }
-    ensures { thirty_says result line.now ≡ thirty_of (cut line.now) }
+    ensures { thirty_says result ≡ thirty_of (cut line.now) }
 {
     let rest2 = after(line, field(line));
     let pairs = field(rest2);
@@ -49,26 +42,17 @@ fn read_fields(line: &[u8]) -> Thirty
     let mre = field(rest3);
     let rest4 = after(rest3, mre);
     let sender = field(rest4);
-    let good = same(pairs, b"ATTRIBUTE_VALUE_PAIRS")
+    let fits = same(pairs, b"ATTRIBUTE_VALUE_PAIRS")
         & has_duns(mre, b"MRE=")
+        & has_duns(sender, b"Sender=")
         & ends_row(after(rest4, sender));
-    if !good {
-        return Thirty::Refused(MISFIT);
-    }
-    if !has_duns(sender, b"Sender=") {
-        return Thirty::Refused(MISFIT);
-    }
-    Thirty::Passed(Place {
-        at: start_of(line, rest4) + SENDER_NAME_SIZE,
-        len: sender.len() - SENDER_NAME_SIZE,
-    })
+    require(fits, Verdict::Misfit)?;
+    Ok(behind(sender, SENDER_NAME_SIZE))
 }
 
-pub fn read_thirty(line: &[u8], cr: bool) -> Thirty
-    ensures { thirty_says result line.now ≡ row_thirty (line_of line.now cr) }
+pub fn read_thirty(line: &[u8], cr: bool) -> Result<&[u8], Verdict>
+    ensures { thirty_says result ≡ row_thirty (line_of line.now cr) }
 {
-    match begin(line, cr, b"00000030", 6) {
-        Begun::Refused(verdict) => Thirty::Refused(verdict),
-        Begun::Fields => read_fields(line),
-    }
+    begin(line, cr, b"00000030", 6)?;
+    read_fields(line)
 }

@@ -1,9 +1,10 @@
 // Times of 14 digits, and the day that a start and a stop span.
 ghost use Rattle.std.specs.Prelude.{◌≡◌, ◌+◌, ◌*◌};
-ghost use Rattle.headers.specs.Time.{time_of, moment, is_below, stops_day, is_whole_day};
-ghost use Rattle.headers.specs.Answer.{time_says};
+ghost use Rattle.report.specs.Outcome.{says};
+ghost use Rattle.headers.specs.Time.{time_of, stamp_at, moment, is_below, stops_day, is_whole_day};
 
 use calendar::{is_clock, is_date};
+use report::verdict::{Verdict, require};
 use text::bytes::all_digits;
 use text::fields::{behind, front};
 use text::numbers::number_of;
@@ -15,56 +16,46 @@ const TIME_SIZE: usize = 14;
 pub const DAY_STOP: u32 = 235900;
 
 // A date YYYYMMDD and a time of day HHMMSS.
-#[derive(Clone, Copy)]
+#[derive(Clone, Copy, Debug, PartialEq, Eq)]
 pub struct Time {
     pub date: u32,
     pub clock: u32,
 }
 
 // When a read was made: of the reads for a cell the one with the latest stamp wins.
-#[derive(Clone, Copy)]
+#[derive(Clone, Copy, Debug, PartialEq, Eq, PartialOrd, Ord)]
 pub struct Stamp {
     pub date: u32,
     pub clock: u32,
 }
 
-#[derive(Clone, Copy)]
-pub enum TimeRead {
-    At(Time),
-    Misfit,
+impl From<Time> for Stamp {
+    ghost from_gives = { λ t s. s ≡ stamp_at t };
+
+    fn from(t: Time) -> Stamp {
+        Stamp {
+            date: t.date,
+            clock: t.clock,
+        }
+    }
 }
 
-pub fn read_time(f: &[u8]) -> TimeRead
-    ensures { time_says result ≡ time_of f.now }
+pub fn read_time(f: &[u8]) -> Result<Time, Verdict>
+    ensures { says result ≡ time_of f.now }
 {
-    if f.len() != TIME_SIZE {
-        return TimeRead::Misfit;
-    }
-    if !all_digits(f) {
-        return TimeRead::Misfit;
-    }
+    require(f.len() == TIME_SIZE, Verdict::Misfit)?;
+    require(all_digits(f), Verdict::Misfit)?;
     let date = number_of(front(f, DATE_SIZE));
     let clock = number_of(behind(f, DATE_SIZE));
-    if !is_date(date) {
-        return TimeRead::Misfit;
-    }
-    if !is_clock(clock) {
-        return TimeRead::Misfit;
-    }
-    TimeRead::At(Time { date, clock })
-}
-
-fn wide(x: u32) -> u64
-    ensures { result ≡ x }
-{
-    x as u64
+    require(is_date(date) & is_clock(clock), Verdict::Misfit)?;
+    Ok(Time { date, clock })
 }
 
 // The 14 digits as one number.
 fn moment_of(t: Time) -> u64
     ensures { result ≡ moment t }
 {
-    wide(t.date) * 1000000 + wide(t.clock)
+    u64::from(t.date) * 1_000_000 + u64::from(t.clock)
 }
 
 // Whether start is numerically below stop.

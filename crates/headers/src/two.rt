@@ -1,20 +1,55 @@
 // Row two: a table of fourteen field forms, walked by one field checker.
-ghost use Rattle.std.specs.Prelude.{◌≡◌, ◌<◌, length, get_or};
+ghost use Rattle.std.specs.Prelude.{◌≡◌, length};
 ghost use Rattle.text.specs.Byte.{ascii};
 ghost use Rattle.text.specs.Field.{cut};
 ghost use Rattle.lines.specs.Row.{Due};
+ghost use Rattle.report.specs.Outcome.{says};
 ghost use Rattle.headers.specs.Two.{is_decimal, up_to_digits, is_unit_code, is_zone_count, fits_form, row_two_forms, fit_all, has_multiplier, row_two};
-ghost use Rattle.lines.specs.Answer.{line_of, checked_says};
+ghost use Rattle.lines.specs.Answer.{line_of};
 
-use lines::row::{Begun, Checked, begin};
-use report::verdict::MISFIT;
+use lines::row::begin;
+use report::verdict::{Verdict, require};
 use text::bytes::{all_digits, is_empty, same};
 use text::fields::{after, behind, field};
 use text::numbers::{digits, number_of};
 
-const FIELDS: usize = 14;
-// The form of each field, by its code in `fits`.
-const FORMS: [u8; 14] = [0, 1, 1, 1, 2, 1, 2, 3, 4, 5, 6, 1, 1, 7];
+// What a field may be.
+#[derive(Clone, Copy, Debug, PartialEq, Eq)]
+pub enum Form {
+    // The row's code, which 13 has tested.
+    Code,
+    // A decimal, or empty.
+    Decimal,
+    Empty,
+    // `900`
+    Seconds,
+    // `01`
+    Unit,
+    // 1 to 4 digits, not zero, or empty.
+    UnitCode,
+    // `-1`, or 1 to 2 digits up to 47, or empty.
+    ZoneCount,
+    // `CST`
+    ZoneName,
+}
+
+// The forms of fields 1 to 14.
+const FORMS: [Form; 14] = [
+    Form::Code,
+    Form::Decimal,
+    Form::Decimal,
+    Form::Decimal,
+    Form::Empty,
+    Form::Decimal,
+    Form::Empty,
+    Form::Seconds,
+    Form::Unit,
+    Form::UnitCode,
+    Form::ZoneCount,
+    Form::Decimal,
+    Form::Decimal,
+    Form::ZoneName,
+];
 
 // 1 to 15 digits, optionally a point and 1 to 4 digits.
 fn is_decimal(f: &[u8]) -> bool
@@ -57,42 +92,34 @@ fn is_zone_count(f: &[u8]) -> bool
 }
 
 // Whether a field has a form.
-fn fits(form: u8, f: &[u8]) -> bool
+#[tactic(auto, unfolding(crate::specs::Two::fits_form))]
+fn fits(form: Form, f: &[u8]) -> bool
     ensures { result ≡ fits_form form f.now }
 {
     match form {
-        0 => true,
-        1 => is_empty(f) | is_decimal(f),
-        2 => is_empty(f),
-        3 => same(f, b"900"),
-        4 => same(f, b"01"),
-        5 => is_empty(f) | is_unit_code(f),
-        6 => is_empty(f) | same(f, b"-1") | is_zone_count(f),
-        _ => same(f, b"CST"),
+        Form::Code => true,
+        Form::Decimal => is_empty(f) | is_decimal(f),
+        Form::Empty => is_empty(f),
+        Form::Seconds => same(f, b"900"),
+        Form::Unit => same(f, b"01"),
+        Form::UnitCode => is_empty(f) | is_unit_code(f),
+        Form::ZoneCount => is_empty(f) | same(f, b"-1") | is_zone_count(f),
+        Form::ZoneName => same(f, b"CST"),
     }
 }
 
-fn form_of(k: usize) -> u8
-    requires { k < 14 }
-    ensures { result ≡ get_or row_two_forms k 0 }
-{
-    FORMS[k]
-}
-
-// Whether each field has its form. `at` is where field k begins.
+// Whether each field has its form.
 fn fit_all(line: &[u8]) -> bool
     requires { Due (ascii "00000002") 14 line.now }
     ensures { result ≡ fit_all row_two_forms (cut line.now) }
 {
-    let mut at: usize = 0;
-    let mut k: usize = 0;
-    while k < FIELDS {
-        let f = field(behind(line, at));
-        if !fits(form_of(k), f) {
+    let mut rest = line;
+    for form in FORMS {
+        let f = field(rest);
+        if !fits(form, f) {
             return false;
         }
-        at = at + f.len() + 1;
-        k += 1;
+        rest = after(rest, f);
     }
     true
 }
@@ -110,17 +137,9 @@ fn has_multiplier(line: &[u8]) -> bool
     is_empty(start) | is_empty(stop) | !is_empty(multiplier)
 }
 
-pub fn read_two(line: &[u8], cr: bool) -> Checked
-    ensures { checked_says result ≡ row_two (line_of line.now cr) }
+pub fn read_two(line: &[u8], cr: bool) -> Result<(), Verdict>
+    ensures { says result ≡ row_two (line_of line.now cr) }
 {
-    match begin(line, cr, b"00000002", 14) {
-        Begun::Refused(verdict) => Checked::Refused(verdict),
-        Begun::Fields => {
-            if fit_all(line) & has_multiplier(line) {
-                Checked::Passed
-            } else {
-                Checked::Refused(MISFIT)
-            }
-        }
-    }
+    begin(line, cr, b"00000002", 14)?;
+    require(fit_all(line) & has_multiplier(line), Verdict::Misfit)
 }

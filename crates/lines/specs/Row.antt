@@ -1,6 +1,6 @@
 -- What every row tests first: 11, 13, 14. Document 01, "What a call returns".
 -- Assumes nothing.
-use Rattle.std.specs.Prelude.{◌≡◌, List, [], not, ℕ, ◌-◌, ◌≤◌, eqb, length, drop, get_or}
+use Rattle.std.specs.Prelude.{◌≡◌, List, [], not, ℕ, ◌-◌, ◌≤◌, eqb, length, get_or}
 use Rattle.text.specs.Byte.{Bytes, equals}
 use Rattle.text.specs.Field.{cut, first_field}
 use Rattle.lines.specs.Line.{Line, is_long, line_limit}
@@ -25,13 +25,3 @@ pub record Due (code : Bytes) (n : ℕ) (line : Bytes) : Type 0 where
   pub short : length line ≤ line_limit
   pub first : first_field line ≡ code
   pub count : length (cut line) ≡ n
-
--- what is left of a line behind some of its fields
-pub record RestOf (line rest : Bytes) : Type 0 where
-  pub skipped : ℕ
-  pub left : rest ≡ drop skipped line
-
--- the rest of a line begins at a place of it
-pub record StartsAt (line : Bytes) (at : ℕ) (rest : Bytes) : Type 0 where
-  pub within : at ≤ length line
-  pub left : drop at line ≡ rest

@@ -5,7 +5,7 @@
 // `end::line_end` finds the LF of a line in a piece, and `keep::keep` keeps the bytes of one whose LF has not come.
 // A row's reader begins with `row::begin`: the verdicts 11, 13 and 14, in this order.
 //
-// For whoever changes it: the limit of a line is `LINE_LIMIT`, the verdicts' numbers are in `verdict` and specs/Verdict.antt.
+// For whoever changes it: the limit of a line is `LINE_LIMIT`, a verdict is an error of `report::verdict::Verdict`.
 #![tactic(auto)]
 
 pub mod end;

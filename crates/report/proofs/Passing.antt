@@ -1,10 +1,16 @@
--- Steps one after the other that passed: each of them passed.
+-- Steps one after the other that passed: each of them passed. And what an exit by `?` answers.
 -- Assumes nothing.
-use mathlib.Core.Path.{◌≡◌, refl}
+use mathlib.Core.Path.{◌≡◌, refl, sym}
 use mathlib.Core.Bool.{Bool, true, false}
 use Prim.Native.Nat.{ℕ}
 use native.Mathlib.Omega.{arith}
-use Rattle.report.specs.Outcome.{Outcome, passed, refused, require, ◌>>=◌, ◌>>◌}
+use Rattle.std.specs.Prelude.{Result, Ok, Err, IsErrAnd}
+use Rattle.report.specs.declared.verdict.Verdict.{Verdict}
+use Rattle.report.specs.declared.refusal.Refusal.{Refusal}
+use Rattle.report.specs.Verdict.{verdict_number}
+use Rattle.report.specs.Refusal.{refusal_number}
+use Rattle.report.specs.Outcome.{Outcome, passed, refused, require, says, answers, ◌>>=◌, ◌>>◌}
+use Rattle.std.proofs.lemmas.Result.{err_from_is_err_and}
 
 refused-apart : {A : Type 0} (v : ℕ) (a : A) → ◌≡◌ {A = Outcome A} (refused v) (passed a) → ⊥
 refused-apart v a e = let z : ◌≡◌ {A = ℕ} 0 1 = cc in omega arith
@@ -27,3 +33,23 @@ module _ {A B : Type 0} (o : Outcome A) (b : B) where
 pub require-passed : (t : Bool) (v : ℕ) (u : Unit {0}) → require t v ≡ passed u → t ≡ true
 require-passed true v u e = refl
 require-passed false v u e = absurd (refused-apart v u e)
+
+-- what a test says of a `require` that is known to have let pass, or refused
+pub test-passed : (t : Bool) (v : ℕ) → passed tt ≡ require t v → t ≡ true
+test-passed true v e = refl
+test-passed false v e = absurd (refused-apart v tt (sym e))
+
+pub test-refused : (t : Bool) (v n : ℕ) → refused n ≡ require t v → (t ≡ false) × (n ≡ v)
+test-refused true v n e = absurd (refused-apart {A = Unit {0}} n tt e)
+test-refused false v n e = (refl, cc)
+
+-- ---- THE EXIT OF A `?`: the error goes on as it is
+pub says-exit : {A : Type 0} (r : Result A Verdict) (v : Verdict) → IsErrAnd r (λ e. e ≡ v) → says r ≡ refused (verdict_number v)
+says-exit r v h = let p = err_from_is_err_and r h in rw (p.1, p.2)
+
+-- the same where the value would be looked at
+pub bind-exit : {A B : Type 0} (r : Result A Verdict) (v : Verdict) (next : A → Outcome B) → IsErrAnd r (λ e. e ≡ v) → (says r >>= next) ≡ refused (verdict_number v)
+bind-exit r v next h = rw (says-exit r v h)
+
+pub answers-exit : {A : Type 0} (r : Result A Refusal) (f : Refusal) → IsErrAnd r (λ e. e ≡ f) → answers r ≡ refused (refusal_number f)
+answers-exit r f h = let p = err_from_is_err_and r h in rw (p.1, p.2)

@@ -1,6 +1,7 @@
 // The verdicts that refuse a record: document 01's names, with its numbers (specs/Verdict.antt).
 ghost use Rattle.std.specs.Prelude.{◌≡◌};
 ghost use Rattle.report.specs.Verdict.{verdict_number};
+ghost use Rattle.report.specs.Outcome.{says, require as required};
 
 #[derive(Clone, Copy, Debug, PartialEq, Eq, Hash)]
 pub enum Verdict {
@@ -34,6 +35,13 @@ impl From<Verdict> for u32 {
     fn from(v: Verdict) -> u32 {
         v as u32
     }
+}
+
+// Refused unless the test holds.
+pub fn require(holds: bool, verdict: Verdict) -> Result<(), Verdict>
+    ensures { says result ≡ required holds (verdict_number verdict) }
+{
+    if holds { Ok(()) } else { Err(verdict) }
 }
 
 // The number in the place of a verdict in the entry of a record that was loaded.

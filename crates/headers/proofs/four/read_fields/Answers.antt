@@ -1,13 +1,19 @@
 -- `headers::four::read_fields` meets its contract.
 -- Assumes nothing.
-use Rattle.headers.proofs.Span.{four-stamp, four_origin, four-passed}
+use mathlib.Core.Path.{◌∙◌}
+use Rattle.report.proofs.Passing.{says-exit}
+use Rattle.headers.specs.Time.{stamp_of}
+use Rattle.headers.proofs.Rows.{four-fields}
 use Rattle.headers.proofs.four.read_fields.Goals as goal
 
-pub returns-in_default : goal.returns-in_default
-returns-in_default c = four-stamp _ _ _ c.requires c.after-rest2.ensures c.field-stamp.ensures _ c.read_time.ensures c.in_default.is
+pub returns-in_err-time : goal.returns-in_err-time
+unfolding stamp_of
+returns-in_err-time c = says-exit _ _ c.from_residual.ensures.1 ∙ rw (four-fields _ _ _ _ _ c.requires c.after-rest2.ensures c.field-stamp.ensures c.after.ensures c.field-origin.ensures, ← c.in_err-time.ensures)
 
-pub returns-then-not-same : goal.returns-then-not-same
-returns-then-not-same c = four_origin _ _ _ c.requires c.after-rest2.ensures c.field-stamp.ensures _ c.read_time.ensures _ c.in-At.is _ _ c.after.ensures c.field-origin.ensures _ c.same.ensures c.if-not-same.true
+pub returns-in_err-require : goal.returns-in_err-require
+unfolding stamp_of
+returns-in_err-require c = says-exit _ _ c.from_residual-in_err-require.ensures.1 ∙ rw (four-fields _ _ _ _ _ c.requires c.after-rest2.ensures c.field-stamp.ensures c.after.ensures c.field-origin.ensures, ← c.in_ok-time.ensures, ← c.same.ensures, ← c.in_err-require.ensures)
 
 pub returns : goal.returns
-returns c = four-passed _ _ _ c.requires c.after-rest2.ensures c.field-stamp.ensures _ c.read_time.ensures _ c.in-At.is _ _ c.after.ensures c.field-origin.ensures _ c.same.ensures c.if-not-same.false
+unfolding stamp_of
+returns c = rw (c.from.ensures, four-fields _ _ _ _ _ c.requires c.after-rest2.ensures c.field-stamp.ensures c.after.ensures c.field-origin.ensures, ← c.in_ok-time.ensures, ← c.same.ensures, ← c.in_ok-require.ensures)

@@ -1,14 +1,16 @@
 -- `headers::one::read_channel` meets its contract.
 -- Assumes nothing.
-use borrow.Author.Rules.{rules}
-use Rattle.headers.proofs.Span.{channel-generation, channel-load, channel_other}
+use Rattle.headers.specs.One.{channel_of}
 use Rattle.headers.proofs.one.read_channel.Goals as goal
 
 pub returns-then-same : goal.returns-then-same
-returns-then-same c = search (channel-generation, rules)
+unfolding channel_of
+returns-then-same c = rw (← c.same.ensures, c.if-same.true)
 
 pub returns-then-same-2 : goal.returns-then-same-2
-returns-then-same-2 c = search (channel-load, rules)
+unfolding channel_of
+returns-then-same-2 c = rw (← c.same.ensures, c.if-same.false, ← c.same-2.ensures, c.if-same-2.true)
 
 pub returns : goal.returns
-returns c = search (channel_other, rules)
+unfolding channel_of
+returns c = rw (← c.same.ensures, c.if-same.false, ← c.same-2.ensures, c.if-same-2.false)

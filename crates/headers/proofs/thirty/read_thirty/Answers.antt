@@ -1,16 +1,18 @@
 -- `headers::thirty::read_thirty` meets its contract.
 -- Assumes nothing.
-use Rattle.lines.proofs.Begin.{begun-due, row-refused, row_read}
+use mathlib.Core.Path.{◌∙◌}
+use Rattle.report.proofs.Passing.{bind-exit}
+use Rattle.lines.proofs.Begin.{begun-due}
 use Rattle.headers.specs.Thirty.{row_thirty}
 use Rattle.headers.proofs.thirty.read_thirty.Goals as goal
 
+pub returns-in_err-begin : goal.returns-in_err-begin
+unfolding row_thirty
+returns-in_err-begin c = bind-exit _ _ _ c.from_residual.ensures.1 ∙ rw (← c.in_err-begin.ensures)
+
 pub read_fields-requires : goal.read_fields-requires
-read_fields-requires c = begun-due _ _ _ _ _ c.begin.ensures c.in-Fields.is
+read_fields-requires c = begun-due _ _ _ _ c.in_ok-begin.ensures
 
-pub returns-in-Refused : goal.returns-in-Refused
+pub returns : goal.returns
 unfolding row_thirty
-returns-in-Refused c = row-refused _ _ _ _ _ c.begin.ensures _ _ c.in-Refused.is
-
-pub returns-in-Fields : goal.returns-in-Fields
-unfolding row_thirty
-returns-in-Fields c = row_read _ _ _ _ _ c.begin.ensures _ c.in-Fields.is _ c.read_fields.ensures
+returns c = rw (← c.in_ok-begin.ensures) c.read_fields.ensures

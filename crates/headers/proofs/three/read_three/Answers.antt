@@ -1,16 +1,19 @@
 -- `headers::three::read_three` meets its contract.
 -- Assumes nothing.
-use Rattle.lines.proofs.Begin.{row-refused}
+use mathlib.Core.Path.{◌∙◌}
+use native.Mathlib.Omega.{arith}
+use Rattle.text.proofs.Comma.{cut_at}
+use Rattle.report.proofs.Passing.{says-exit}
+use Rattle.lines.proofs.Begin.{begun-due}
 use Rattle.headers.specs.Three.{row_three}
-use Rattle.headers.proofs.Span.{three-passed, three-refused}
 use Rattle.headers.proofs.three.read_three.Goals as goal
 
-pub returns-in-Refused : goal.returns-in-Refused
+pub returns-in_err-begin : goal.returns-in_err-begin
 unfolding row_three
-returns-in-Refused c = row-refused _ _ _ _ _ c.begin.ensures _ _ c.in-Refused.is
+returns-in_err-begin c = says-exit _ _ c.from_residual.ensures.1 ∙ rw (← c.in_err-begin.ensures)
 
-pub returns-then-is_descriptor : goal.returns-then-is_descriptor
-returns-then-is_descriptor c = three-passed _ _ _ c.begin.ensures c.in-Fields.is _ _ c.after.ensures c.field-in-Fields.ensures _ c.is_descriptor.ensures c.if-is_descriptor.true
-
-pub returns-else-is_descriptor : goal.returns-else-is_descriptor
-returns-else-is_descriptor c = three-refused _ _ _ c.begin.ensures c.in-Fields.is _ _ c.after.ensures c.field-in-Fields.ensures _ c.is_descriptor.ensures c.if-is_descriptor.false
+pub returns : goal.returns
+unfolding row_three
+returns c =
+    let due = begun-due _ _ _ _ c.in_ok-begin.ensures in
+    rw (← c.in_ok-begin.ensures, cut_at 1 c.args.line.now (omega (arith, due.count)), ← c.after.ensures, ← c.field-descriptor.ensures, ← c.is_descriptor.ensures) c.require.ensures

@@ -1,26 +1,32 @@
 -- `headers::time::read_time` meets its contract.
 -- Assumes nothing.
-use borrow.Author.Rules.{rules}
-use Rattle.headers.proofs.Moment.{time_length, time_digits, date_digits, clock_digits, time_date, time_clock, time_at}
+use mathlib.Core.Path.{◌∙◌}
+use Rattle.report.proofs.Passing.{says-exit, test-passed, test-refused}
+use Rattle.headers.specs.Time.{is_time, time_of}
+use Rattle.headers.proofs.Moment.{date_digits, clock_digits, time-is}
 use Rattle.headers.proofs.time.read_time.Goals as goal
 
-pub returns-then-f-ne-TIME_SIZE : goal.returns-then-f-ne-TIME_SIZE
-returns-then-f-ne-TIME_SIZE c = search (time_length, rules)
+pub returns-in_err-require : goal.returns-in_err-require
+unfolding time_of is_time
+returns-in_err-require c = says-exit _ _ c.from_residual.ensures.1 ∙ (let p = test-refused _ _ _ c.in_err-require.ensures in rw (p.0, p.1))
 
-pub returns-then-not-all_digits : goal.returns-then-not-all_digits
-returns-then-not-all_digits c = search (time_digits, rules)
+pub returns-in_err-require-2 : goal.returns-in_err-require-2
+unfolding time_of is_time
+returns-in_err-require-2 c =
+    let p = test-refused _ _ _ c.in_err-require-2.ensures in
+    says-exit _ _ c.from_residual-in_err-require-2.ensures.1 ∙ rw (test-passed _ _ c.in_ok-require.ensures, ← c.all_digits.ensures, p.0, p.1)
 
 pub number_of-date-requires : goal.number_of-date-requires
-number_of-date-requires c = search (date_digits, rules)
+number_of-date-requires c = date_digits _ _ _ c.in_ok-require.ensures _ c.all_digits.ensures c.in_ok-require-2.ensures _ c.front.ensures
 
 pub number_of-clock-requires : goal.number_of-clock-requires
-number_of-clock-requires c = search (clock_digits, rules)
+number_of-clock-requires c = clock_digits _ _ _ c.in_ok-require.ensures _ c.all_digits.ensures c.in_ok-require-2.ensures _ c.behind.ensures
 
-pub returns-then-not-is_date : goal.returns-then-not-is_date
-returns-then-not-is_date c = search (time_date, rules)
-
-pub returns-then-not-is_clock : goal.returns-then-not-is_clock
-returns-then-not-is_clock c = search (time_clock, rules)
+pub returns-in_err-require-3 : goal.returns-in_err-require-3
+returns-in_err-require-3 c =
+    says-exit _ _ c.from_residual-in_err-require-3.ensures.1
+    ∙ rw (time-is _ _ _ c.in_ok-require.ensures _ c.all_digits.ensures c.in_ok-require-2.ensures _ _ _ _ _ _ c.front.ensures c.behind.ensures c.number_of-date.ensures c.number_of-clock.ensures c.is_date.ensures c.is_clock.ensures, ← c.in_err-require-3.ensures)
 
 pub returns : goal.returns
-returns c = time_at _ c.if-f-ne-TIME_SIZE.false _ c.all_digits.ensures c.if-not-all_digits.false _ _ _ _ c.front.ensures c.behind.ensures c.number_of-date.ensures c.number_of-clock.ensures _ c.is_date.ensures c.if-not-is_date.false _ c.is_clock.ensures c.if-not-is_clock.false
+returns c =
+    rw (time-is _ _ _ c.in_ok-require.ensures _ c.all_digits.ensures c.in_ok-require-2.ensures _ _ _ _ _ _ c.front.ensures c.behind.ensures c.number_of-date.ensures c.number_of-clock.ensures c.is_date.ensures c.is_clock.ensures, ← c.in_ok-require-3.ensures)
