@@ -2,10 +2,8 @@
 // a table. A line comes in without its CR, and `cr` says whether it had one. A reader takes any bytes and answers with what the row
 // gives, or with its verdict:
 //
-//     match one::read_one(line, cr) {
-//         One::Passed(id, channel, day) => ..   // the ESI ID stands at the place `id` of the line
-//         One::Refused(verdict) => ..           // the first test that fails: 11, 13, 14, then the fields, then 16 and 17
-//     }
+//     let one = one::read_one(line, cr)?;     // its ESI ID is that very part of the line; the error is the first test that fails:
+//                                             // 11, 13, 14, then the fields, then 16 and 17
 //
 // Each reads field by field; crate `usual` has a quick way through rows as nearly every file has them, with the same promises.
 //

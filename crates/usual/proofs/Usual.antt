@@ -30,14 +30,7 @@ use Rattle.headers.specs.Two.{decimal_parts, is_decimal, up_to_digits, fits_form
 use Rattle.headers.specs.Three.{row_three}
 use Rattle.headers.specs.Four.{four_of, row_four}
 use Rattle.headers.specs.Thirty.{sender_name, rep_name, has_duns, ends_thirty, is_thirty, thirty_of, row_thirty}
-use Rattle.headers.specs.Answer.{time_says}
-use Rattle.usual.specs.Answer.{UsualFourSays}
 use Rattle.headers.specs.declared.time.Time.{Time}
-use Rattle.headers.specs.declared.time.Stamp.{Stamp}
-use Rattle.headers.specs.declared.time.TimeRead.{TimeRead}
-use Rattle.headers.specs.declared.time.TimeRead.TheVariants.{At}
-use Rattle.usual.specs.declared.four.UsualFour.{UsualFour}
-use Rattle.usual.specs.declared.four.UsualFour.TheVariants.{Is}
 
 -- A LINE PUT TOGETHER from the left, when `rest` is what stands behind the part: its first bytes, a part that is not known, one that is, a byte.
 module _ (s : Bytes) {rest : Bytes} where
@@ -101,10 +94,7 @@ time_clean f t e =
 
 module _ (line : Bytes) (size : length line ≡ 25) (p q : Bool) (ep : p ≡ starts_with (ascii "00000004,") line)
     (eq : q ≡ equals (take (length line - 23) (drop 23 line)) (ascii ",M")) (shaped : (p && q) ≡ true)
-    (a : TimeRead) (ea : time_says a ≡ time_of (take 14 (drop 9 line))) (t : Time) (ha : a ≡ At t) where
-  stamp : passed t ≡ time_of (take 14 (drop 9 line))
-  stamp = rw ha at ea
-
+    (t : Time) (stamp : passed t ≡ time_of (take 14 (drop 9 line))) where
   four-made : line ≡ ascii "00000004," ++ (take 14 (drop 9 line) ++ ascii ",M")
   four-made =
       first line _ (sym ep ∙ and_left p q shaped)
@@ -121,9 +111,6 @@ module _ (line : Bytes) (size : length line ≡ 25) (p q : Bool) (ep : p ≡ sta
   pub four_usual : (cr : Bool) → passed (record { date = t.date; clock = t.clock }) ≡ row_four (line_of line cr)
   unfolding row_four four_of stamp_of equals
   four_usual cr = sym (rw (usual_fields line (ascii "00000004") _ cr (omega arith) (ap cut four-made ∙ four-cut), ← stamp))
-
-pub four-taken : (line : Bytes) (r : UsualFour) → ((cr : Bool) → UsualFourSays r (line_of line cr)) → (s : Stamp) → r ≡ Is s → (cr : Bool) → passed s ≡ row_four (line_of line cr)
-four-taken line r says s h cr = rw h at (says cr)
 
 -- ---- ROW THIRTY
 

@@ -23,18 +23,11 @@ use Rattle.text.proofs.Comma.{NoComma, digits-no-comma, alnum_no_comma, cut_fiel
 use Rattle.lines.specs.Line.{line_limit}
 use Rattle.report.specs.Outcome.{passed, refused}
 use Rattle.report.specs.Verdict.{misfit}
-use Rattle.lines.specs.Answer.{line_of, text_at}
-use Rattle.lines.specs.declared.row.Place.{Place}
+use Rattle.lines.specs.Answer.{line_of}
 use Rattle.headers.specs.Time.{date_size, clock_size, day_stop, is_time, time_of, is_below, stops_day, is_whole_day}
 use Rattle.headers.specs.One.{channel_of, day_of, one_of, row_one}
-use Rattle.headers.specs.Answer.{channel_says}
-use Rattle.usual.specs.Answer.{UsualOneSays}
 use Rattle.headers.specs.declared.one.Channel.{Channel}
 use Rattle.headers.specs.declared.one.Channel.TheVariants.{Load, Generation}
-use Rattle.headers.specs.declared.one.ChannelRead.{ChannelRead}
-use Rattle.headers.specs.declared.one.ChannelRead.TheVariants.{Is}
-use Rattle.usual.specs.declared.one.UsualOne.{UsualOne}
-use Rattle.usual.specs.declared.one.UsualOne.TheVariants.{Is as Usual}
 use Rattle.usual.proofs.Usual.{first, part, known, byte, usual_fields}
 
 -- a channel's field has no comma
@@ -157,16 +150,10 @@ module _ (line : Bytes) (low : 46 ≤ length line) (p q v w x y : Bool)
         (part line 9 (length line - 36 - 9) (rw n (sym (left-whole line (length line - 36)))))
 
     pub one_usual : (date : ℕ) → date ≡ number (day_at line) → (r : Bool) → r ≡ is_date date → r ≡ true
-        → (a : ChannelRead) → channel_says a ≡ channel_of (take 1 (drop 1 (tail_of line))) → (k : Channel) → a ≡ Is k
+        → (k : Channel) → passed k ≡ channel_of (take 1 (drop 1 (tail_of line)))
         → (cr : Bool) → passed (record { esi_id = id_of line; channel = k; day = date }) ≡ row_one (line_of line cr)
-    one_usual date ed r er hr a ea k ha cr =
-        let ek : passed k ≡ channel_of (take 1 (drop 1 (tail_of line))) = rw ha at ea in
+    one_usual date ed r er hr k ek cr =
         rw ed
         (one-made (day_at line) stop (day-length line low) (sym ev ∙ each 4) (rw (← ed, ← er) hr) st line (id_of line) (take 1 (drop 1 (tail_of line)))
         (line_made ∙ ap (λ t. ascii "00000001," ++ (id_of line ++ t)) tail-made)
         (id-named line low high (sym eq ∙ each 1)) (sym eq ∙ each 1) k ek cr (omega arith))
-
--- what the reader says of a row that it takes for a usual one
-pub one-taken : (line : Bytes) (r : UsualOne) → ((cr : Bool) → UsualOneSays r (line_of line cr)) → (id : Place) (k : Channel) (date : ℕ) → r ≡ Usual id k date
-    → (cr : Bool) → passed (record { esi_id = text_at id line; channel = k; day = date }) ≡ row_one (line_of line cr)
-one-taken line r says id k date h cr = rw h at (says cr)

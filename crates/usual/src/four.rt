@@ -1,12 +1,12 @@
 // The usual row four.
 ghost use Rattle.std.specs.Prelude.{◌≡◌, Bool};
+ghost use Rattle.report.specs.Outcome.{says};
 ghost use Rattle.lines.specs.Answer.{line_of};
 ghost use Rattle.headers.specs.Four.{row_four};
-ghost use Rattle.headers.specs.Answer.{four_says};
 ghost use Rattle.usual.specs.Answer.{UsualFourSays};
 
-use headers::four::Four;
-use headers::time::{Stamp, TimeRead, read_time};
+use headers::time::{Stamp, read_time};
+use report::verdict::Verdict;
 use text::bytes::{begins, same};
 
 // Row four as nearly every file has it: `00000004,YYYYMMDDHHMMSS,M`, whose parts stand at known places.
@@ -20,37 +20,28 @@ const STAMP_AT: usize = 9;
 
 const STAMP_END: usize = 23;
 
-// What a usual row four gives; any other line is for `headers`.
-#[derive(Clone, Copy)]
-pub enum UsualFour {
-    Is(Stamp),
-    Other,
-}
-
-fn usual_four(line: &[u8]) -> UsualFour
+// The stamp of a usual row four; any other line is for `headers`.
+fn usual_four(line: &[u8]) -> Option<Stamp>
     ensures { (cr : Bool) → UsualFourSays result (line_of line.now cr) }
 {
     if line.len() != USUAL_SIZE {
-        return UsualFour::Other;
+        return None;
     }
     let shaped = begins(line, &USUAL_HEAD) & same(&line[STAMP_END..], &USUAL_TAIL);
     if !shaped {
-        return UsualFour::Other;
+        return None;
     }
-    match read_time(&line[STAMP_AT..STAMP_END]) {
-        TimeRead::Misfit => UsualFour::Other,
-        TimeRead::At(time) => UsualFour::Is(Stamp {
-            date: time.date,
-            clock: time.clock,
-        }),
-    }
+    let Ok(time) = read_time(&line[STAMP_AT..STAMP_END]) else {
+        return None;
+    };
+    Some(Stamp::from(time))
 }
 
-pub fn read_four(line: &[u8], cr: bool) -> Four
-    ensures { four_says result ≡ row_four (line_of line.now cr) }
+pub fn read_four(line: &[u8], cr: bool) -> Result<Stamp, Verdict>
+    ensures { says result ≡ row_four (line_of line.now cr) }
 {
-    if let UsualFour::Is(stamp) = usual_four(line) {
-        return Four::Passed(stamp);
+    if let Some(stamp) = usual_four(line) {
+        return Ok(stamp);
     }
     headers::four::read_four(line, cr)
 }

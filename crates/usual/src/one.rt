@@ -6,8 +6,8 @@ ghost use Rattle.headers.specs.Answer.{one_says};
 ghost use Rattle.usual.specs.Answer.{UsualOneSays};
 
 use calendar::is_date;
-use headers::one::{Channel, ChannelRead, One, read_channel};
-use lines::row::Place;
+use headers::one::{One, read_channel};
+use report::verdict::Verdict;
 use text::bytes::{all_alnum, all_digits, begins, same};
 use text::numbers::number_of;
 
@@ -40,58 +40,46 @@ const USUAL_START: [u8; 7] = *b"000000,";
 const USUAL_STOP: [u8; 10] = *b"235900,Y,N";
 
 // What a usual row one gives; any other line is for `headers`.
-#[derive(Clone, Copy)]
-pub enum UsualOne {
-    Is(Place, Channel, u32),
-    Other,
-}
-
-fn usual_one(line: &[u8]) -> UsualOne
+fn usual_one(line: &[u8]) -> Option<One<'_>>
     ensures { (cr : Bool) → UsualOneSays result (line_of line.now cr) }
 {
     let n = line.len();
     if n < USUAL_LEAST {
-        return UsualOne::Other;
+        return None;
     }
     if USUAL_MOST < n {
-        return UsualOne::Other;
+        return None;
     }
     let end = n - TAIL_SIZE;
+    let id = &line[ID_AT..end];
     let tail = &line[end..];
-    let day = &tail[DAY_AT..CLOCK_AT];
+    let digits = &tail[DAY_AT..CLOCK_AT];
     let shaped = begins(line, &USUAL_HEAD)
-        & all_alnum(&line[ID_AT..end])
+        & all_alnum(id)
         & (tail[0] == b',')
         & (tail[CHANNEL_END] == b',')
-        & all_digits(day)
+        & all_digits(digits)
         & same(&tail[CLOCK_AT..STOP_AT], &USUAL_START)
-        & same(&tail[STOP_AT..STOP_CLOCK_AT], day)
+        & same(&tail[STOP_AT..STOP_CLOCK_AT], digits)
         & same(&tail[STOP_CLOCK_AT..], &USUAL_STOP);
     if !shaped {
-        return UsualOne::Other;
+        return None;
     }
-    let date = number_of(day);
-    if !is_date(date) {
-        return UsualOne::Other;
+    let day = number_of(digits);
+    if !is_date(day) {
+        return None;
     }
-    match read_channel(&tail[CHANNEL_AT..CHANNEL_END]) {
-        ChannelRead::Other => UsualOne::Other,
-        ChannelRead::Is(channel) => UsualOne::Is(
-            Place {
-                at: ID_AT,
-                len: end - ID_AT,
-            },
-            channel,
-            date,
-        ),
-    }
+    let Ok(channel) = read_channel(&tail[CHANNEL_AT..CHANNEL_END]) else {
+        return None;
+    };
+    Some(One { id, channel, day })
 }
 
-pub fn read_one(line: &[u8], cr: bool) -> One
-    ensures { one_says result line.now ≡ row_one (line_of line.now cr) }
+pub fn read_one(line: &[u8], cr: bool) -> Result<One<'_>, Verdict>
+    ensures { one_says result ≡ row_one (line_of line.now cr) }
 {
-    if let UsualOne::Is(id, channel, day) = usual_one(line) {
-        return One::Passed(id, channel, day);
+    if let Some(one) = usual_one(line) {
+        return Ok(one);
     }
     headers::one::read_one(line, cr)
 }

@@ -1,12 +1,11 @@
 // The usual row thirty.
-ghost use Rattle.std.specs.Prelude.{◌≡◌, Bool, true, take, drop};
-ghost use Rattle.report.specs.Outcome.{passed};
+ghost use Rattle.std.specs.Prelude.{◌≡◌, Bool};
 ghost use Rattle.lines.specs.Answer.{line_of};
 ghost use Rattle.headers.specs.Thirty.{row_thirty};
 ghost use Rattle.headers.specs.Answer.{thirty_says};
+ghost use Rattle.usual.specs.Answer.{UsualThirtySays};
 
-use headers::thirty::Thirty;
-use lines::row::Place;
+use report::verdict::Verdict;
 use text::bytes::{all_digits, begins, is_empty, same};
 use text::names::is_duns;
 
@@ -25,34 +24,31 @@ const SENDER_AT: usize = 52;
 
 const SENDER_END: usize = 61;
 
-const SENDER_SIZE: usize = 9;
-
 const REP_AT: usize = 85;
 
-// Whether a line is a usual row thirty, which passes without a walk along its fields.
-fn usual_thirty(line: &[u8]) -> bool
-    ensures { result ≡ true → (cr : Bool) → passed (take 9 (drop 52 line.now)) ≡ row_thirty (line_of line.now cr) }
+// The Sender's number of a usual row thirty, which passes without a walk along its fields; any other line is for `headers`.
+fn usual_thirty(line: &[u8]) -> Option<&[u8]>
+    ensures { (cr : Bool) → UsualThirtySays result (line_of line.now cr) }
 {
     if line.len() < REP_AT {
-        return false;
+        return None;
     }
+    let sender = &line[SENDER_AT..SENDER_END];
     let rep = &line[REP_AT..];
-    begins(line, &USUAL_HEAD)
+    let shaped = begins(line, &USUAL_HEAD)
         & all_digits(&line[MRE_AT..MRE_END])
         & same(&line[MRE_END..SENDER_AT], &USUAL_SENDER)
-        & all_digits(&line[SENDER_AT..SENDER_END])
+        & all_digits(sender)
         & same(&line[SENDER_END..REP_AT], &USUAL_TAIL)
-        & (is_empty(rep) | is_duns(rep))
+        & (is_empty(rep) | is_duns(rep));
+    if shaped { Some(sender) } else { None }
 }
 
-pub fn read_thirty(line: &[u8], cr: bool) -> Thirty
-    ensures { thirty_says result line.now ≡ row_thirty (line_of line.now cr) }
+pub fn read_thirty(line: &[u8], cr: bool) -> Result<&[u8], Verdict>
+    ensures { thirty_says result ≡ row_thirty (line_of line.now cr) }
 {
-    if usual_thirty(line) {
-        return Thirty::Passed(Place {
-            at: SENDER_AT,
-            len: SENDER_SIZE,
-        });
+    if let Some(sender) = usual_thirty(line) {
+        return Ok(sender);
     }
     headers::thirty::read_thirty(line, cr)
 }

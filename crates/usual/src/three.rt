@@ -1,10 +1,10 @@
 // The usual row three.
 ghost use Rattle.std.specs.Prelude.{◌≡◌, Bool, true};
-ghost use Rattle.report.specs.Outcome.{passed};
-ghost use Rattle.lines.specs.Answer.{line_of, checked_says};
+ghost use Rattle.report.specs.Outcome.{passed, says};
+ghost use Rattle.lines.specs.Answer.{line_of};
 ghost use Rattle.headers.specs.Three.{row_three};
 
-use lines::row::Checked;
+use report::verdict::Verdict;
 use text::bytes::begins;
 use text::fields::behind;
 use text::names::is_descriptor;
@@ -21,11 +21,11 @@ fn usual_three(line: &[u8]) -> bool
     begins(line, &USUAL_HEAD) & is_descriptor(behind(line, DESCRIPTOR_AT))
 }
 
-pub fn read_three(line: &[u8], cr: bool) -> Checked
-    ensures { checked_says result ≡ row_three (line_of line.now cr) }
+pub fn read_three(line: &[u8], cr: bool) -> Result<(), Verdict>
+    ensures { says result ≡ row_three (line_of line.now cr) }
 {
     if usual_three(line) {
-        return Checked::Passed;
+        return Ok(());
     }
     headers::three::read_three(line, cr)
 }

@@ -3,5 +3,5 @@
 use Rattle.usual.proofs.Usual.{four_usual}
 use Rattle.usual.proofs.four.usual_four.Goals as goal
 
-pub returns-in-At : goal.returns-in-At
-returns-in-At c = four_usual _ c.if-line-ne-USUAL_SIZE.false _ _ c.begins.ensures c.same.ensures c.if-not-shaped.false _ c.read_time.ensures _ c.in-At.is
+pub returns : goal.returns
+returns c cr = rw c.from.ensures (four_usual _ c.if-line-ne-USUAL_SIZE.false _ _ c.begins.ensures c.same.ensures c.if-not-shaped.false _ c.in-Ok.ensures cr)

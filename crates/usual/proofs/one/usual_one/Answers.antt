@@ -4,11 +4,11 @@ use Rattle.text.specs.Number.{digits_of}
 use Rattle.usual.proofs.UsualOne.{stop_text, stop_right, usual_digits, one_usual}
 use Rattle.usual.proofs.one.usual_one.Goals as goal
 
-pub number_of-date-requires : goal.number_of-date-requires
-number_of-date-requires c =
+pub number_of-day-requires : goal.number_of-day-requires
+number_of-day-requires c =
     usual_digits c.args.line.now c.if-n-lt-USUAL_LEAST.false c.begins.result c.all_alnum.result c.all_digits.result c.same.result c.same-2.result c.same-3.result c.if-not-shaped.false c.all_digits.ensures
 
-pub returns-in-Is : goal.returns-in-Is
+pub returns : goal.returns
 unfolding digits_of
-returns-in-Is c =
-    one_usual _ c.if-n-lt-USUAL_LEAST.false _ _ _ _ _ _ c.if-not-shaped.false c.all_digits.ensures stop_text stop_right c.if-n-gt-USUAL_MOST.false c.begins.ensures c.all_alnum.ensures c.same.ensures c.same-2.ensures c.same-3.ensures _ c.number_of-date.ensures _ c.is_date.ensures c.if-not-is_date.false _ c.read_channel.ensures _ c.in-Is.is
+returns c cr =
+    one_usual _ c.if-n-lt-USUAL_LEAST.false _ _ _ _ _ _ c.if-not-shaped.false c.all_digits.ensures stop_text stop_right c.if-n-gt-USUAL_MOST.false c.begins.ensures c.all_alnum.ensures c.same.ensures c.same-2.ensures c.same-3.ensures _ c.number_of-day.ensures _ c.is_date.ensures c.if-not-is_date.false _ c.in-Ok.ensures cr
