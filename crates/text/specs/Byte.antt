@@ -23,10 +23,10 @@ unfoldable pub is_empty : Bytes → Bool
 is_empty [] = true
 is_empty (b ∷ s) = false
 
--- every byte is of the class
-unfoldable pub every : (ℕ → Bool) → Bytes → Bool
+-- every item is of the class
+unfoldable pub every : {A : Type 0} → (A → Bool) → List A → Bool
 every class [] = true
-every class (b ∷ s) = class b && every class s
+every class (x ∷ xs) = class x && every class xs
 
 -- two texts are equal
 unfoldable pub equals : Bytes → Bytes → Bool

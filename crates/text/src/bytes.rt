@@ -1,5 +1,5 @@
-// Classes of bytes, texts compared, and a text copied. A scan does not stop early, so that the compiler looks at many bytes at once.
-ghost use Rattle.std.specs.Prelude.{◌≡◌, length};
+// Classes of bytes, texts compared, and a text copied.
+ghost use Rattle.std.specs.Prelude.{◌≡◌, Bool, length};
 ghost use Rattle.text.specs.Byte.{is_digit, is_alnum, is_empty, every, equals, starts_with};
 
 pub fn is_digit(b: u8) -> bool
@@ -21,28 +21,28 @@ pub fn is_empty(f: &[u8]) -> bool
     f.len() == 0
 }
 
+// Whether every item is of a class. The scan does not stop early, so that the compiler looks at many items at once.
+pub fn every<T: Copy, F: Fn(T) -> bool>(items: &[T], class: F) -> bool
+    requires { F.IsAlwaysCallable class }
+    ensures { (test : T → Bool) → ((x : T) (r : Bool) → F.post class x r → r ≡ test x) → result ≡ every test items.now }
+{
+    let mut all = true;
+    for item in items {
+        all = all & class(*item);
+    }
+    all
+}
+
 pub fn all_digits(s: &[u8]) -> bool
     ensures { result ≡ every is_digit s.now }
 {
-    let mut ok = true;
-    let mut i: usize = 0;
-    while i < s.len() {
-        ok = ok & is_digit(s[i]);
-        i += 1;
-    }
-    ok
+    every(s, is_digit)
 }
 
 pub fn all_alnum(s: &[u8]) -> bool
     ensures { result ≡ every is_alnum s.now }
 {
-    let mut ok = true;
-    let mut i: usize = 0;
-    while i < s.len() {
-        ok = ok & is_alnum(s[i]);
-        i += 1;
-    }
-    ok
+    every(s, is_alnum)
 }
 
 pub fn same(a: &[u8], b: &[u8]) -> bool
