@@ -17,7 +17,7 @@ use Rattle.text.specs.Number.{number, leading, behind, Digits}
 use Rattle.text.proofs.Truth.{and_left, and_right}
 use Rattle.text.proofs.Left.{left-cons, left-none}
 use Rattle.text.proofs.Decimal.{run_drop, run_stops}
-use Rattle.text.proofs.Comma.{cut-head, cut-more, cut_at, field-drop, field-within}
+use Rattle.text.proofs.Comma.{cut-head, cut-more, cut_at, field_drop, field-within}
 use Rattle.report.specs.Outcome.{passed, refused}
 use Rattle.lines.specs.Row.{fields_of}
 use Rattle.report.specs.Verdict.{misfit}

@@ -13,7 +13,7 @@ use Rattle.text.specs.Byte.{Bytes, equals}
 use Rattle.text.specs.Field.{cut, first_field, after_field}
 use Rattle.text.proofs.Equal.{equals_path}
 use Rattle.text.proofs.Left.{left-none}
-use Rattle.text.proofs.Comma.{cut_at, cut-some, field-drop}
+use Rattle.text.proofs.Comma.{cut_at, cut-some}
 use Rattle.lines.specs.Line.{is_long}
 use Rattle.report.specs.Outcome.{Outcome, passed, refused, require, ◌>>=◌, ◌>>◌}
 use Rattle.lines.specs.Row.{fields_of, ◌!◌, Due}
