@@ -17,7 +17,7 @@ use Rattle.text.specs.Number.{number, leading, behind, Digits}
 use Rattle.text.proofs.Truth.{and_left, and_right}
 use Rattle.text.proofs.Left.{left-cons, left-none}
 use Rattle.text.proofs.Decimal.{run_drop, run_stops}
-use Rattle.text.proofs.Comma.{cut-head, cut-more, cut_at, field-drop, field-within}
+use Rattle.text.proofs.Comma.{cut-head, cut-more, cut_at, field_drop, field-within}
 use Rattle.report.specs.Outcome.{passed, refused}
 use Rattle.lines.specs.Row.{fields_of}
 use Rattle.report.specs.Verdict.{misfit}
@@ -143,7 +143,7 @@ module _ (line : Bytes) (k at : ℕ) (long : length (cut line) ≡ 14) (so_far :
     walk_next g =
         let n : at + (length f + 1) ≡ at + length f + 1 = omega arith in
         next-rest (cut line) k rest (here h ∙ ap cut (sym er)) (omega arith)
-        ∙ ap cut (sym (field-drop rest) ∙ rw (← ef, er) (drop-drop (length f + 1) at line ∙ ap (λ x. drop x line) n))
+        ∙ ap cut (sym (field_drop rest) ∙ rw (← ef, er) (drop-drop (length f + 1) at line ∙ ap (λ x. drop x line) n))
 
   pub walk_done : k ≤ 14 → 14 ≤ k → true ≡ fit_all row_two_forms (cut line)
   unfolding fit_all

@@ -13,7 +13,7 @@ use Rattle.text.specs.Byte.{Bytes, equals}
 use Rattle.text.specs.Field.{cut, first_field, after_field}
 use Rattle.text.proofs.Equal.{equals_path}
 use Rattle.text.proofs.Left.{left-none}
-use Rattle.text.proofs.Comma.{cut_at, cut-some, field-drop}
+use Rattle.text.proofs.Comma.{cut_at, cut-some, field_drop}
 use Rattle.lines.specs.Line.{is_long}
 use Rattle.report.specs.Outcome.{Outcome, passed, refused, require, ◌>>=◌, ◌>>◌}
 use Rattle.lines.specs.Row.{fields_of, ◌!◌, Due, RestOf, StartsAt}
@@ -94,7 +94,7 @@ rest-whole line = record { skipped = 0; left = refl }
 pub rest-after : (line rest next : Bytes) → RestOf line rest → next ≡ after_field rest → RestOf line next
 rest-after line rest next r e = record {
   skipped = r.skipped + (length (first_field rest) + 1);
-  left = e ∙ sym (field-drop rest) ∙ rw r.left (drop-drop (length (first_field (drop r.skipped line)) + 1) r.skipped line);
+  left = e ∙ sym (field_drop rest) ∙ rw r.left (drop-drop (length (first_field (drop r.skipped line)) + 1) r.skipped line);
 }
 
 pub rest-within : (line rest : Bytes) → RestOf line rest → length rest ≤ length line

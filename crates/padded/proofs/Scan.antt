@@ -14,7 +14,7 @@ use Rattle.padded.specs.Private.{is_padded, spaces_last}
 
 pub padded_step : (s : Bytes) (i : ℕ) (ok : Bool) → every is_padded s ≡ (ok && every is_padded (drop i s)) → (r : Bool) → i < length s
     → r ≡ is_alnum (get_or s i 0) → every is_padded s ≡ ((ok && (r || is_space (get_or s i 0))) && every is_padded (drop (i + 1) s))
-padded_step s i ok inv r h e = every_step is_padded s i ok inv (r || is_space (get_or s i 0)) h (rw e)
+padded_step s i ok inv r h e = every_step is_padded s i ok (r || is_space (get_or s i 0)) 0 inv h (rw e)
 
 -- no space stands before another byte
 module _ (s : Bytes) (i : ℕ) (ok : Bool) (inv : spaces_last s ≡ (ok && spaces_last (drop i s))) where

@@ -1,17 +1,18 @@
 -- Classes of bytes: the scan of a text for a byte outside a class, and the range of a digit.
 -- Assumes nothing.
 use mathlib.Core.Path.{◌≡◌, refl, sym, ◌∙◌}
-use mathlib.Core.List.{[], ◌∷◌, ◌++◌}
+use mathlib.Core.List.{List, [], ◌∷◌, ◌++◌}
 use mathlib.Core.Bool.{Bool, true, ◌&&◌, and-true, and_assoc}
 use Prim.Native.Nat.{ℕ, zero, suc, ◌+◌, ◌-◌, ◌<◌, ◌≤◌}
 use native.Mathlib.Omega.{arith}
+use native.Mathlib.Numerals.{add-one}
 use native.Mathlib.Nat.{not-suc-le-zero, le_of_suc-le-suc}
 use lib.Dec.{eqb, leb}
-use lib.ListN.{length, take, drop, get_or}
+use lib.ListN.{length, take, drop, get_or, drop_of_length-le}
+use lib.Seq.{drop-cons}
 use borrow.Author.Tests.{ne_eqb, leb-true, le-leb}
 use Rattle.text.specs.Byte.{Bytes, is_digit, is_empty, every}
 use Rattle.text.proofs.Truth.{and_left, and_right, and_both}
-use Rattle.text.proofs.Left.{left-cons, left-none}
 
 pub digit_low : (b : ℕ) → is_digit b ≡ true → 48 ≤ b
 digit_low b h = leb-true 48 b (and_left (leb 48 b) (leb b 57) h)
@@ -67,12 +68,13 @@ every-wider p q w [] h = refl
 every-wider p q w (b ∷ s) h =
     and_both (q b) (every q s) (w b (and_left (p b) (every p s) h)) (every-wider p q w s (and_right (p b) (every p s) h))
 
--- the scan, which does not stop early: what it has found so far, and what is left
-module _ (class : ℕ → Bool) (s : Bytes) (i : ℕ) (ok : Bool) (inv : every class s ≡ (ok && every class (drop i s))) where
-  pub every_step : (r : Bool) → i < length s → r ≡ class (get_or s i 0) → every class s ≡ ((ok && r) && every class (drop (i + 1) s))
+-- the scan: what it has found so far, and what is left
+module _ {A : Type 0} (class : A → Bool) (items : List A) (i : ℕ) (all : Bool) where
+  pub every_step : (r : Bool) (d : A) → every class items ≡ (all && every class (drop i items)) → i < length items → r ≡ class (get_or items i d)
+      → every class items ≡ ((all && r) && every class (drop (i + 1) items))
   unfolding every
-  every_step r h e = inv ∙ rw (left-cons s i h, e) (sym (and_assoc ok (class (get_or s i 0)) (every class (drop (i + 1) s))))
+  every_step r d inv h e = inv ∙ rw (drop-cons items i d h, e, add-one) (sym (and_assoc all _ _))
 
-  pub every_end : length s ≤ i → ok ≡ every class s
+  pub every_end : every class items ≡ (all && every class (drop i items)) → length items ≤ i → all ≡ every class items
   unfolding every
-  every_end h = sym (inv ∙ rw (left-none s i h) (and-true ok))
+  every_end inv h = sym (inv ∙ rw (drop_of_length-le items h) (and-true all))

@@ -9,11 +9,18 @@ use native.Mathlib.Numerals.{add-one}
 use lib.Dec.{eqb, leb}
 use lib.ListN.{length, take, drop, get_or, length-take, length-drop}
 use borrow.Author.Tests.{eq-eqb, ne_eqb, leb-true, leb-false, lt-leb, not-true}
+use lib.Seq.{take_all}
+use Rattle.std.specs.List.{position_or_len}
+use Rattle.std.proofs.lemmas.List.Recursion.{is_position_or_len}
+use Rattle.std.proofs.lemmas.List.Sums.{position_or_len_is}
 use Rattle.text.specs.Byte.{Bytes, is_digit, is_alnum, every}
 use Rattle.text.specs.Field.{comma, cut, in_front, first_field, after_field, field_at}
 use Rattle.text.proofs.Truth.{apart, and_left, and_right}
-use Rattle.text.proofs.Left.{left-cons, left-none, left-whole, left-empty}
+use Rattle.text.proofs.Left.{left-cons, left-none}
 use Rattle.text.proofs.Class.{digit_low, every-wider}
+
+abbrev pub is_comma : ℕ → Bool
+is_comma b = eqb b comma
 
 -- THE FIRST FIELD is the line's bytes up to its length.
 field_take-by : (t : Bool) (b : ℕ) (f s : Bytes) → f ≡ take (length f) s → cond t [] (b ∷ f) ≡ take (length (cond t [] (b ∷ f))) (b ∷ s)
@@ -28,33 +35,23 @@ field_take (b ∷ s) = field_take-by (eqb b comma) b (first_field s) s (field_ta
 pub field-within : (s : Bytes) → length (first_field s) ≤ length s
 field-within s = omega (arith, simp length-take at (ap length (field_take s)))
 
-field_is : (s : Bytes) (n : ℕ) → length (first_field s) ≡ n → take (n - 0) s ≡ first_field s
-field_is s n h =
-    let z : n - 0 ≡ n = omega arith in
-    rw (z, ← h) (sym (field_take s))
+-- the field ends at the first comma, or where the line does
+length-field : (s : Bytes) → length (first_field s) ≡ position_or_len is_comma s
+unfolding first_field
+length-field = is_position_or_len (λ s. length (first_field s)) is_comma refl step
+  where
+    step : (b : ℕ) (s : Bytes) → length (first_field (b ∷ s)) ≡ cond (is_comma b) 0 (1 + length (first_field s))
+    step b s = go (is_comma b)
+      where
+        go : (t : Bool) → length (cond t [] (b ∷ first_field s)) ≡ cond t 0 (1 + length (first_field s))
+        go true = refl
+        go false = omega arith
 
--- the scan for its end: the comma is found, is not found yet, is not there
-module _ (s : Bytes) (e : ℕ) (inv : length (first_field s) ≡ e + length (first_field (drop e s))) where
-  pub field_found : e < length s → get_or s e 0 ≡ comma → take (e - 0) s ≡ first_field s
-  unfolding first_field
-  field_found h t = field_is s e (omega (arith, inv, ends))
-    where
-      ends : length (first_field (drop e s)) ≡ 0
-      ends = rw (left-cons s e h, eq-eqb _ _ t)
+pub field_until : (s : Bytes) (n : ℕ) → n ≤ length s → ((k : ℕ) → k < n → is_comma (get_or s k 0) ≡ false) → (n < length s → is_comma (get_or s n 0) ≡ true) → take n s ≡ first_field s
+field_until s n within none ends = sym (field_take s ∙ rw (length-field s, position_or_len_is is_comma s n 0 within none ends))
 
-  pub field_again : e < length s → (get_or s e 0 ≡ comma → ⊥) → length (first_field s) ≡ e + 1 + length (first_field (drop (e + 1) s))
-  unfolding first_field
-  field_again h t = omega (arith, inv, goes)
-    where
-      goes : length (first_field (drop e s)) ≡ suc (length (first_field (drop (e + 1) s)))
-      goes = rw (left-cons s e h, ne_eqb _ _ t)
-
-  pub field_last : length s ≤ e → take (e - 0) s ≡ first_field s
-  unfolding first_field
-  field_last h = field_is s e (omega (arith, inv, over))
-    where
-      over : length (first_field (drop e s)) ≡ 0
-      over = rw (left-none s e h)
+pub field_whole : (s : Bytes) → ((k : ℕ) → k < length s → is_comma (get_or s k 0) ≡ false) → s ≡ first_field s
+field_whole s none = sym (take_all (length s) s (omega arith)) ∙ field_until s (length s) (omega arith) none (λ h. absurd (omega (arith, h)))
 
 -- BEHIND IT stands what follows its comma.
 field_drop-by : (t : Bool) (b : ℕ) (f a s : Bytes) → drop (suc (length f)) s ≡ a → drop (suc (length (cond t [] (b ∷ f)))) (b ∷ s) ≡ cond t s a
@@ -66,15 +63,8 @@ unfolding first_field after_field
 field_drop-suc [] = refl
 field_drop-suc (b ∷ s) = field_drop-by (eqb b comma) b (first_field s) (after_field s) s (field_drop-suc s)
 
-pub field-drop : (s : Bytes) → drop (length (first_field s) + 1) s ≡ after_field s
-field-drop s = rw add-one (field_drop-suc s)
-
-module _ (s f : Bytes) (e : f ≡ first_field s) where
-  pub after-comma : take (length s - (length f + 1)) (drop (length f + 1) s) ≡ after_field s
-  after-comma = left-whole s (length f + 1) ∙ rw e (field-drop s)
-
-  pub after-end : length s ≤ length f → take (length s - length s) (drop (length s) s) ≡ after_field s
-  after-end h = left-empty s (length f + 1) (omega arith) ∙ rw e (field-drop s)
+pub field_drop : (s : Bytes) → drop (length (first_field s) + 1) s ≡ after_field s
+field_drop s = rw add-one (field_drop-suc s)
 
 -- THE COUNT OF FIELDS
 front_length : (b : ℕ) (fs : List Bytes) → 0 < length fs → length (in_front b fs) ≡ length fs
@@ -145,7 +135,7 @@ pub cut-less : (s : Bytes) → 1 < length (cut s) → length (cut s) ≡ suc (le
 cut-less s h = ap length (cut-more s h)
 
 pub after-within : (s : Bytes) → length (after_field s) ≤ length s
-after-within s = omega (arith, ap length (field-drop s), length-drop (length (first_field s) + 1) s)
+after-within s = omega (arith, ap length (field_drop s), length-drop (length (first_field s) + 1) s)
 
 -- A LINE MADE OF FIELDS is cut into them again: no byte of a field is a comma.
 abbrev pub not_comma : ℕ → Bool

@@ -9,6 +9,9 @@ use native.Mathlib.Numerals.{add-one}
 use native.Mathlib.Nat.{add-zero, pow-suc, pow-le-pow_right}
 use lib.ListN.{length, take, drop, get_or, length-take}
 use borrow.Author.Tests.{not-true, not-false}
+use Rattle.std.specs.List.{position_or_len}
+use Rattle.std.proofs.lemmas.List.Recursion.{is_position_or_len}
+use Rattle.std.proofs.lemmas.List.Sums.{position_or_len_is}
 use Rattle.text.specs.Byte.{Bytes, is_digit, every}
 use Rattle.text.specs.Number.{number, number_from, leading, behind, Digits}
 use Rattle.text.proofs.Truth.{and_left, and_right, and_both}
@@ -49,28 +52,23 @@ run_within s = omega (arith, simp length-take at (ap length (run_take s)))
 pub run_stops : (s : Bytes) (w : ℕ) → w ≡ length (leading s) → (w ≡ length s → ⊥) → w < length s
 run_stops s w run h = omega (arith, run_within s)
 
--- the scan: a byte that is no digit, a digit, the end
-module _ (s : Bytes) (i : ℕ) (inv : length (leading s) ≡ i + length (leading (drop i s))) where
-  pub digits-found : (r : Bool) → i < length s → r ≡ is_digit (get_or s i 0) → not r ≡ true → i ≡ length (leading s)
-  unfolding leading
-  digits-found r h e t = omega (arith, inv, ends)
-    where
-      ends : length (leading (drop i s)) ≡ 0
-      ends = rw (left-cons s i h, sym e ∙ not-true r t)
+-- the run ends at the first byte that is no digit, or where the text does
+abbrev pub no_digit : ℕ → Bool
+no_digit b = not (is_digit b)
 
-  pub digits_again : (r : Bool) → i < length s → r ≡ is_digit (get_or s i 0) → not r ≡ false → length (leading s) ≡ i + 1 + length (leading (drop (i + 1) s))
-  unfolding leading
-  digits_again r h e t = omega (arith, inv, goes)
-    where
-      goes : length (leading (drop i s)) ≡ suc (length (leading (drop (i + 1) s)))
-      goes = rw (left-cons s i h, sym e ∙ not-false r t)
+run_length : (s : Bytes) → length (leading s) ≡ position_or_len no_digit s
+unfolding leading
+run_length = is_position_or_len (λ s. length (leading s)) no_digit refl step
+  where
+    step : (b : ℕ) (s : Bytes) → length (leading (b ∷ s)) ≡ cond (no_digit b) 0 (1 + length (leading s))
+    step b s = go (is_digit b)
+      where
+        go : (t : Bool) → length (cond t (b ∷ leading s) []) ≡ cond (not t) 0 (1 + length (leading s))
+        go true = omega arith
+        go false = refl
 
-  pub digits_last : length s ≤ i → i ≡ length (leading s)
-  unfolding leading
-  digits_last h = omega (arith, inv, over)
-    where
-      over : length (leading (drop i s)) ≡ 0
-      over = rw (left-none s i h)
+pub run_until : (s : Bytes) (n : ℕ) → n ≤ length s → ((k : ℕ) → k < n → no_digit (get_or s k 0) ≡ false) → (n < length s → no_digit (get_or s n 0) ≡ true) → n ≡ length (leading s)
+run_until s n within none ends = sym (run_length s ∙ position_or_len_is no_digit s n 0 within none ends)
 
 -- THE NUMBER so far, and what is left of the digits
 pub number_again : (s : Bytes) (i n d : ℕ) → number_from 0 s ≡ number_from n (drop i s) → i < length s → d ≡ get_or s i 0 - 48 → number_from 0 s ≡ number_from (n * 10 + d) (drop (i + 1) s)

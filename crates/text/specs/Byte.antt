@@ -1,6 +1,8 @@
 -- Bytes, their classes, and texts written out. Document 01, "Rows": digits are decimal, letters are ASCII of either case.
 -- Assumes nothing.
 use Rattle.std.specs.Prelude.{List, [], ◌∷◌, Bool, true, false, ◌&&◌, ◌||◌, ℕ, eqb, leb}
+use Rattle.std.specs.Str.{bytes_eq}
+use Rattle.std.specs.List.{starts_with as begins}
 use Prim.Native.Char.{code}
 use Prim.Native.String.{String, [] as end, ◌∷◌ as ◌then◌}
 
@@ -23,20 +25,15 @@ unfoldable pub is_empty : Bytes → Bool
 is_empty [] = true
 is_empty (b ∷ s) = false
 
--- every byte is of the class
-unfoldable pub every : (ℕ → Bool) → Bytes → Bool
+-- every item is of the class
+unfoldable pub every : {A : Type 0} → (A → Bool) → List A → Bool
 every class [] = true
-every class (b ∷ s) = class b && every class s
+every class (x ∷ xs) = class x && every class xs
 
 -- two texts are equal
 unfoldable pub equals : Bytes → Bytes → Bool
-equals [] [] = true
-equals [] (c ∷ t) = false
-equals (b ∷ s) [] = false
-equals (b ∷ s) (c ∷ t) = eqb b c && equals s t
+equals s t = bytes_eq s t
 
 -- a text begins with another
 unfoldable pub starts_with : Bytes → Bytes → Bool
-starts_with [] s = true
-starts_with (p ∷ ps) [] = false
-starts_with (p ∷ ps) (b ∷ s) = eqb b p && starts_with ps s
+starts_with p s = begins eqb s p

@@ -6,24 +6,18 @@ ghost use Rattle.text.specs.Number.{number, leading, Digits};
 use crate::bytes::is_digit;
 
 // How many digits a text begins with.
+#[tactic(auto, using(crate::proofs::Decimal::run_until))]
 pub fn digits(s: &[u8]) -> usize
     ensures { result ≡ length (leading s.now) }
 {
-    let mut i: usize = 0;
-    while i < s.len() {
-        if !is_digit(s[i]) {
-            return i;
-        }
-        i += 1;
-    }
-    i
+    s.iter().position(|b| !is_digit(*b)).unwrap_or(s.len())
 }
 
 fn digit(b: u8) -> u32
     requires { is_digit b ≡ true }
     ensures { (result ≡ b - 48) × (result ≤ 9) }
 {
-    (b - b'0') as u32
+    u32::from(b - b'0')
 }
 
 // The number that at most nine digits write.
@@ -32,10 +26,8 @@ pub fn number_of(s: &[u8]) -> u32
     ensures { result ≡ number s.now }
 {
     let mut n: u32 = 0;
-    let mut i: usize = 0;
-    while i < s.len() {
-        n = n * 10 + digit(s[i]);
-        i += 1;
+    for b in s {
+        n = n * 10 + digit(*b);
     }
     n
 }
