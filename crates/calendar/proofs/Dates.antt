@@ -1,11 +1,11 @@
 -- The parts of a date, what makes it real, and the dates of a month one after the other.
 -- Assumes nothing.
-use mathlib.Core.Path.{◌≡◌, refl, sym, ◌∙◌}
-use mathlib.Core.Bool.{Bool, true, false, cond, not, ◌||◌, and-eq-true_iff}
+use mathlib.Core.Path.{◌≡◌, refl, ◌∙◌}
+use mathlib.Core.Bool.{Bool, true, false, cond, ◌||◌, and-eq-true_iff}
 use Prim.Native.Nat.{ℕ, zero, suc, ◌+◌, ◌-◌, ◌/◌, ◌%◌, ◌≤◌, ◌<◌}
 use native.Mathlib.Nat.{add-zero, add-suc}
 use native.Mathlib.Omega.{arith}
-use borrow.Author.Tests.{leb-true, le-leb, lt-ltb, le-ltb, ltb-true, ltb-false, not-true, not-false}
+use borrow.Author.Tests.{leb-true, le-leb, lt-ltb, le-ltb, ltb-true, ltb-false}
 use lib.Dec.{eqb, ltb}
 use Rattle.calendar.specs.Date.{first_year, last_year, is_leap, month_length, year_of, month_of, day_part, date_from, is_date}
 use Rattle.calendar.specs.Day.{months, month_index, length_at, first_day, day_number, date_after, date_of}
@@ -67,13 +67,6 @@ unfolding is_date
 is_real date r =
     rw (le-leb _ _ r.year_from, le-leb _ _ r.year_to, le-leb _ _ r.month_from, le-leb _ _ r.month_to, le-leb _ _ r.day-from)
     (le-leb _ _ r.day-to)
-
--- what the code's test of a date tells, on either way
-pub test-real : (date : ℕ) {test : Bool} → test ≡ is_date date → test ≡ true → is_date date ≡ true
-test-real date {test} e f = sym e ∙ f
-
-pub test_none : (date : ℕ) {test : Bool} → test ≡ is_date date → test ≡ false → is_date date ≡ false
-test_none date {test} e f = sym e ∙ f
 
 -- ---- a day of a month
 

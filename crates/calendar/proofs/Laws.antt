@@ -7,11 +7,10 @@ use Prim.Native.Nat.{ℕ, zero, suc, ◌+◌, ◌-◌, ◌≤◌, ◌<◌}
 use native.Mathlib.Omega.{arith}
 use borrow.Author.Tests.{ltb-true, ltb-false, le-leb}
 use lib.Dec.{ltb}
-use Rattle.calendar.specs.Date.{day_part, is_date}
+use Rattle.calendar.specs.Date.{first_year, year_of, month_of, day_part, is_date}
 use Rattle.calendar.specs.Day.{months, month_index, length_at, first_day, day_number, last_day, date_of, InMonth}
 use Rattle.calendar.specs.Intervals.{is_second_sunday_of_march, is_first_sunday_of_november, intervals_on, intervals_of}
-use Rattle.calendar.specs.Answer.{day_is, date_is, intervals_on_date, intervals_of_day}
-use Rattle.calendar.specs.declared.Day.TheVariants.{Number}
+use Rattle.calendar.specs.Answer.{date_is, intervals_on_date, intervals_of_day}
 use Rattle.calendar.proofs.Table.{months-end, first_next, first-order}
 use Rattle.calendar.proofs.Dates.{month_in, date_at, real-at, number_at, date_in, date_at_lem, index_in, day_in_lem}
 
@@ -65,6 +64,19 @@ day-low date e =
     let o : first_day (k + 1) ≤ first_day months = first-order (k + 1) months (omega (arith, index_in date r)) in
     omega (arith, o, first_next k, months-end, day_in_lem date r, r.day-from)
 
+-- what the code's sums and differences need of a real date
+pub record Ranges (date : ℕ) : Type 0 where
+  pub year : first_year ≤ year_of date
+  pub month : 1 ≤ month_of date
+  pub day : 1 ≤ day_part date
+  pub index : month_index date < months
+  pub number : day_number date ≤ last_day
+
+pub in_range : (date : ℕ) → is_date date ≡ true → Ranges date
+in_range date e =
+    let r = month_in date e in
+    record { year = r.year_from; month = r.month_from; day = r.day-from; index = index_in date r; number = day-low date e }
+
 pub date-of-number : (date : ℕ) → is_date date ≡ true → date_of (day_number date) ≡ date
 unfolding day_number
 date-of-number date e =
@@ -72,11 +84,7 @@ date-of-number date e =
     let d : day_part date - 1 + 1 ≡ day_part date = omega (arith, r.day-from) in
     date_in (month_index date) (day_part date - 1) (omega (arith, day_in_lem date r, r.day-from)) ∙ ap (date_at (month_index date)) d ∙ date_at_lem date r
 
--- what is answered for a real date, and for a day up to the last
-pub day-is : (date : ℕ) → is_date date ≡ true → day_is date ≡ Number (day_number date)
-unfolding day_is
-day-is date e = rw e
-
+-- what is answered for a day up to the last
 pub date_is_lem : (n : ℕ) → n ≤ last_day → date_is n ≡ date_of n
 unfolding date_is
 date_is_lem n h = rw (le-leb n last_day h)
@@ -101,6 +109,6 @@ unfolding intervals_of_day
 intervals_of_is n h = rw (le-leb n last_day h)
 
 -- the two ways to a day's intervals agree
-pub intervals-same : (n : ℕ) → n ≤ last_day → intervals_on_date (date_is n) ≡ intervals_of_day n
+pub intervals_same : (n : ℕ) → n ≤ last_day → intervals_on_date (date_is n) ≡ intervals_of_day n
 unfolding intervals_of
-intervals-same n h = rw (date_is_lem n h, intervals_on_is (date_of n) (date_real n h), intervals_of_is n h)
+intervals_same n h = rw (date_is_lem n h, intervals_on_is (date_of n) (date_real n h), intervals_of_is n h)

@@ -1,16 +1,19 @@
--- The first days of the months: the table's rule, from one test of the whole table, and what lies between two of them.
+-- The first days of the months: the table's rule, from one walk along the whole table, and the month of a day by it.
 -- Assumes nothing.
 use mathlib.Core.Path.{◌≡◌, refl, sym, ap, ◌∙◌}
-use mathlib.Core.Bool.{Bool, true, ◌&&◌, and-eq-true_iff}
+use mathlib.Core.Bool.{Bool, true, false, ◌&&◌, and-eq-true_iff}
 use mathlib.Core.List.{List, [], ◌∷◌}
 use mathlib.Core.Logic.{⊎_elim}
-use Prim.Native.Nat.{ℕ, zero, suc, ◌+◌, ◌≤◌, ◌<◌}
-use native.Mathlib.Nat.{add-zero, zero-add, add-suc, suc-add, eq-or-lt_of_le}
+use Prim.Native.Nat.{ℕ, zero, suc, ◌+◌, ◌-◌, ◌≤◌, ◌<◌}
+use native.Mathlib.Nat.{add-zero, zero-add, add-suc, suc-add, eq-or-lt_of_le, lt_of_not-le}
 use native.Mathlib.Numerals.{add-one}
 use native.Mathlib.Omega.{arith}
-use borrow.Author.Tests.{eqb-true}
-use lib.Dec.{eqb}
+use borrow.Author.Tests.{eqb-true, leb-true, leb-false}
+use lib.Dec.{eqb, leb}
 use lib.ListN.{get_or}
+use Rattle.std.specs.List.Sorted.{IsNonDecreasing, IsPartitionedBy, IsPartitionPoint}
+use Rattle.std.proofs.lemmas.List.Sorted.{IsNonDecreasingBy-from_default, IsPartitionedBy-leb}
+use Rattle.calendar.specs.declared.months.TheConstants.{FIRST_DAYS}
 use Rattle.calendar.specs.Date.{month_length}
 use Rattle.calendar.specs.Day.{months, length_at, first_day, last_day, InMonth}
 
@@ -36,10 +39,10 @@ pub first-zero : first_day 0 ≡ 0
 unfolding first_day
 first-zero = refl
 
--- Where the walk passes the table, the entry of each month is its first day.
-pub entry-right : (table : List ℕ) → follows 0 0 table ≡ true → (k : ℕ) → k < months → get_or table k 0 ≡ first_day k
-unfolding first_day
-entry-right table t k h = walked table 0 t k (omega arith) ∙ ap first_day (zero-add k)
+-- The walk passes the table, so the entry of each month is its first day.
+pub entry_right : (k : ℕ) → k < months → get_or FIRST_DAYS k 0 ≡ first_day k
+unfolding first_day month_length
+entry_right k h = walked FIRST_DAYS 0 refl k (omega arith) ∙ ap first_day (zero-add k)
 
 -- December 2099, and the day after it
 pub last_month : first_day 1115 ≡ 33937
@@ -65,17 +68,33 @@ first-order j (suc k) h =
     (λ (q : j < suc k). omega (arith, first-order j k (omega arith)))
     (eq-or-lt_of_le h)
 
--- the day with number n is in a month from `low` on and before `high`
-pub record Between (n low high : ℕ) : Type 0 where
-  pub some : low < high
-  pub within : high ≤ months
-  pub from : first_day low ≤ n
-  pub before : n < first_day high
+-- ---- the month of a day
 
-pub between-all : (n : ℕ) → n ≤ last_day → Between n 0 months
-between-all n h = record { some = omega arith; within = omega arith; from = omega (arith, first-zero); before = omega (arith, months-end) }
+in-order : IsNonDecreasing FIRST_DAYS
+in-order = IsNonDecreasingBy-from_default (λ n. n) FIRST_DAYS 0 (λ i j h l. rw (entry_right i (omega arith), entry_right j l) (first-order i j h))
 
-pub between-one : (n low high : ℕ) → Between n low high → high ≤ low + 1 → InMonth n low
-between-one n low high b h =
-    let e : high ≡ low + 1 = omega arith in
-    record { within = omega arith; from = b.from; before = rw e at b.before }
+pub parted : (n : ℕ) → IsPartitionedBy (λ first. leb first n) FIRST_DAYS
+parted n = IsPartitionedBy-leb (λ first. first) FIRST_DAYS n in-order
+
+-- the first r months, and no others, begin on day n or before
+abbrev pub Begun : ℕ → ℕ → Type 0
+Begun n r = IsPartitionPoint (λ first. leb first n ≡ true) (λ first. leb first n ≡ false) FIRST_DAYS r
+
+module _ (n r : ℕ) (low : n ≤ last_day) (bound : r ≤ months) (begun : Begun n r) where
+  begins : (k : ℕ) → k < r → first_day k ≤ n
+  begins k h = rw (← entry_right k (omega arith)) (leb-true _ _ (begun.0 k 0 (omega arith) h))
+
+  ends : n < first_day r
+  ends =
+      ⊎_elim
+      (λ (q : r ≡ months). rw q (omega (arith, months-end)))
+      (λ (q : r < months). rw (← entry_right r q) (leb-false _ _ (begun.1 r 0 (omega arith) q)))
+      (eq-or-lt_of_le bound)
+
+  pub some_begun : 1 ≤ r
+  some_begun = lt_of_not-le (λ h. let e : r ≡ 0 = omega arith in omega (arith, first-zero, rw e at ends))
+
+  pub last_begun : InMonth n (r - 1)
+  last_begun =
+      let e : r - 1 + 1 ≡ r = omega (arith, some_begun) in
+      record { within = omega (arith, some_begun); from = begins (r - 1) (omega (arith, some_begun)); before = rw e ends }

@@ -10,8 +10,7 @@ use borrow.Author.Tests.{le-leb, lt-leb, lt-ltb, le-ltb}
 use Rattle.calendar.specs.Date.{is_date}
 use Rattle.calendar.specs.Day.{day_number}
 use Rattle.calendar.specs.Answer.{day_is}
-use Rattle.calendar.specs.declared.Day.{Day}
-use Rattle.calendar.specs.declared.Day.TheVariants.{Number, NoDate}
+use Rattle.std.specs.Prelude.{Option, Some, None}
 use Rattle.text.specs.Byte.{Bytes, equals}
 use Rattle.report.specs.Outcome.{passed, refused}
 use Rattle.report.specs.Verdict.{unknown_meter, not_owner, read_by_ercot, no_interval_data, not_idr, outside_window}
@@ -49,26 +48,20 @@ module _ (sum : ℕ) (p : Bool) (ep : p ≡ has_flag ercot_flag sum) where
       flag_right h = rw (← ep, hp, ← eq, hq, ← eu, h)
 
 -- THE WINDOW DAY
-number-real : (t : Bool) (k n : ℕ) → Number n ≡ cond t (Number k) NoDate → (t ≡ true) × (n ≡ k)
+number-real : (t : Bool) (k n : ℕ) → Some n ≡ cond t (Some k) None → (t ≡ true) × (n ≡ k)
 number-real true k n e = (refl, cc)
-number-real false k n e = absurd (omega (arith, never e))
-  where
-    never : Number n ≡ NoDate → ◌≡◌ {A = ℕ} 0 1
-    never q = cc
+number-real false k n e = absurd cc
 
-none_unreal : (t : Bool) (k : ℕ) → NoDate ≡ cond t (Number k) NoDate → t ≡ false
-none_unreal true k e = absurd (omega (arith, never e))
-  where
-    never : NoDate ≡ Number k → ◌≡◌ {A = ℕ} 0 1
-    never q = cc
+none_unreal : (t : Bool) (k : ℕ) → None ≡ cond t (Some k) None → t ≡ false
+none_unreal true k e = absurd cc
 none_unreal false k e = refl
 
-module _ (w : Window) (date : ℕ) (x : Day) (ex : x ≡ day_is date) where
-  pub day-none : x ≡ NoDate → refused outside_window ≡ day_in w date
+module _ (w : Window) (date : ℕ) (x : Option ℕ) (ex : x ≡ day_is date) where
+  pub day-none : x ≡ None → refused outside_window ≡ day_in w date
   unfolding day_in in_window day_is
   day-none h = rw (none_unreal (is_date date) (day_number date) (sym h ∙ ex))
 
-  module _ (n : ℕ) (hx : x ≡ Number n) where
+  module _ (n : ℕ) (hx : x ≡ Some n) where
     real : (is_date date ≡ true) × (n ≡ day_number date)
     unfolding day_is
     real = number-real (is_date date) (day_number date) n (sym hx ∙ ex)

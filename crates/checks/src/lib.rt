@@ -6,7 +6,7 @@
 ghost use Rattle.std.specs.Prelude.{◌≡◌, ◌<◌};
 ghost use Rattle.checks.specs.Check.{has_flag, flag_checks, day_in, day_says, flags_say, judge as judged, Asks};
 
-use calendar::{Day, day_number};
+use calendar::day_number;
 use registry::entry::Window;
 use registry::{Found, find, flags, is_owned};
 use report::verdict::{
@@ -63,7 +63,7 @@ fn flag_checks(sum: u8) -> FlagCheck
 fn window_day(window: Window, date: u32) -> WindowDay
     ensures { day_says result ≡ day_in window date }
 {
-    let Day::Number(n) = day_number(date) else {
+    let Some(n) = day_number(date) else {
         return WindowDay::Outside;
     };
     if n < window.first {

@@ -1,53 +1,55 @@
 -- Digits without the zeros in front.
 -- Assumes nothing.
-use mathlib.Core.Path.{◌≡◌, refl, sym, ap, ◌∙◌}
+use mathlib.Core.Path.{◌≡◌, refl, ap, ◌∙◌}
 use mathlib.Core.List.{[], ◌∷◌}
-use mathlib.Core.Bool.{Bool, true, false, cond}
+use mathlib.Core.Bool.{Bool, true, false, cond, not}
 use Prim.Native.Nat.{ℕ, zero, suc, ◌+◌, ◌-◌, ◌<◌, ◌≤◌}
 use Prim.Native.Char.{code}
-use native.Mathlib.Numerals.{add-one}
+use native.Mathlib.Numerals.{one-add}
 use native.Mathlib.Omega.{arith}
-use lib.Dec.{eqb}
-use lib.ListN.{length, take, drop, get_or, length-drop}
+use lib.Dec.{eqb, ltb}
+use lib.ListN.{length, take, drop, length-take, length-drop}
 use lib.Seq.{take_all}
-use borrow.Author.Tests.{eq-eqb, ne_eqb}
+use borrow.Author.Tests.{ltb-false}
+use Rattle.std.specs.Prelude.{Some, None, position}
+use Rattle.std.specs.Option.{unwrap_or}
+use Rattle.std.specs.List.{position_or_len}
+use Rattle.std.proofs.lemmas.List.Sums.{prefix_len-le-length}
 use Rattle.text.specs.Byte.{Bytes}
 use Rattle.text.specs.Number.{digits_of}
 use Rattle.text.proofs.DigitsOf.{digits-length}
 use Rattle.digits.specs.Put.{Room, Put}
-use Rattle.digits.specs.Decimal.{trimmed, decimal, most_digits}
+use Rattle.digits.specs.Decimal.{is_nonzero, trimmed, decimal, most_digits}
 
-zero-front : (s : Bytes) (i : ℕ) → i + 1 < length s → get_or s i 0 ≡ code "0" → trimmed (drop (i + 1) s) ≡ trimmed (drop i s)
+-- the digits behind the zeros in front of the last one
+from-front : (s : Bytes) (last : ℕ) → length s ≡ suc last → drop (position_or_len is_nonzero (take last s)) s ≡ trimmed s
 unfolding trimmed
-zero-front (d ∷ e ∷ s) zero h z = sym (rw (eq-eqb d (code "0") z))
-zero-front (d ∷ s) (suc i) h z = rw add-one (rw add-one at (zero-front s i (omega arith) z))
-zero-front (d ∷ []) zero h z = absurd (omega arith)
-zero-front [] i h z = absurd (omega arith)
+from-front (d ∷ []) zero l = refl
+from-front (d ∷ e ∷ s) (suc last) l =
+    one_more (eqb d (code "0")) (position_or_len is_nonzero (take last (e ∷ s))) (from-front (e ∷ s) last (omega arith))
+  where
+    one_more : (z : Bool) (n : ℕ) → drop n (e ∷ s) ≡ trimmed (e ∷ s) → drop (cond (not (not z)) (1 + n) 0) (d ∷ e ∷ s) ≡ cond z (trimmed (e ∷ s)) (d ∷ e ∷ s)
+    one_more true n q = rw one-add q
+    one_more false n q = refl
+from-front [] last l = absurd (omega arith)
+from-front (d ∷ []) (suc last) l = absurd (omega arith)
+from-front (d ∷ e ∷ s) zero l = absurd (omega arith)
 
-digit-front : (s : Bytes) (i : ℕ) → i + 1 < length s → ¬ (get_or s i 0 ≡ code "0") → trimmed (drop i s) ≡ drop i s
-unfolding trimmed
-digit-front (d ∷ e ∷ s) zero h z = rw (ne_eqb d (code "0") z)
-digit-front (d ∷ s) (suc i) h z = digit-front s i (omega arith) z
-digit-front (d ∷ []) zero h z = absurd (omega arith)
-digit-front [] i h z = absurd (omega arith)
+position-or : (s : Bytes) (k : ℕ) → length s ≡ k → unwrap_or (position is_nonzero s) k ≡ position_or_len is_nonzero s
+position-or s k l = at (ltb (position_or_len is_nonzero s) (length s)) refl
+  where
+    at : (t : Bool) → ltb (position_or_len is_nonzero s) (length s) ≡ t → unwrap_or (cond t (Some (position_or_len is_nonzero s)) None) k ≡ position_or_len is_nonzero s
+    at true e = refl
+    at false e = omega (arith, ltb-false _ _ e, prefix_len-le-length (λ d. not (is_nonzero d)) s)
 
-last-front : (s : Bytes) (i : ℕ) → i + 1 ≡ length s → trimmed (drop i s) ≡ drop i s
-unfolding trimmed
-last-front (d ∷ []) zero h = refl
-last-front (d ∷ s) (suc i) h = last-front s i (omega arith)
-last-front (d ∷ e ∷ s) zero h = absurd (omega arith)
-last-front [] i h = absurd (omega arith)
-
--- behind some zeros: one more is dropped, another digit and the last one stay
-module _ (s : Bytes) (i : ℕ) (so_far : trimmed (drop i s) ≡ trimmed s) where
-  pub one_more_lem : i + 1 < length s → get_or s i 0 ≡ code "0" → trimmed (drop (i + 1) s) ≡ trimmed s
-  one_more_lem h z = zero-front s i h z ∙ so_far
-
-  pub another_digit : i + 1 < length s → ¬ (get_or s i 0 ≡ code "0") → drop i s ≡ trimmed s
-  another_digit h z = sym (digit-front s i h z) ∙ so_far
-
-  pub last-digit : i < length s → length s ≤ i + 1 → drop i s ≡ trimmed s
-  last-digit h l = sym (last-front s i (omega arith)) ∙ so_far
+-- what the code looks for
+pub first_digit_is : (s : Bytes) (r : ℕ) → 0 < length s → r ≡ unwrap_or (position is_nonzero (take (length s - 1) s)) (length s - 1)
+    → (r < length s) × (drop r s ≡ trimmed s)
+first_digit_is s r some is =
+    let front : Bytes = take (length s - 1) s in
+    let l : length front ≡ length s - 1 = rw length-take (omega arith) in
+    let e : r ≡ position_or_len is_nonzero front = is ∙ position-or front (length s - 1) l in
+    (omega (arith, prefix_len-le-length (λ d. not (is_nonzero d)) front), rw e (from-front s (length s - 1) (omega arith)))
 
 no_longer : (b : Bool) (x y : Bytes) → length x ≤ length y → length (cond b x y) ≤ length y
 no_longer true x y h = h

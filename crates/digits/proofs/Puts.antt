@@ -21,8 +21,8 @@ lent a text back at n e l = record {
 }
 
 module _ (a back : Bytes) (at : ℕ) where
-  pub text-put : (text : Bytes) → back ≡ text → Put a at text (put_mid at (at + length text - at) a back) (at + length text)
-  text-put text e = lent a text back at (length text) e refl
+  pub text_put : (text : Bytes) → back ≡ text → Put a at text (put_mid at (at + length text - at) a back) (at + length text)
+  text_put text e = lent a text back at (length text) e refl
 
   pub number_put : (size n : ℕ) → Room a at (digits_of size n) → back ≡ digits_of (length (mid_of at (at + size - at) a)) n
       → Put a at (digits_of size n) (put_mid at (at + size - at) a back) (at + size)

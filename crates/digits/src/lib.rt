@@ -7,23 +7,22 @@
 // For whoever changes it: a number's digits are `digits_of` of text/specs/Number.antt; `put_digits` is the only function that finds them.
 #![tactic(auto)]
 
-ghost use Rattle.std.specs.Prelude.{◌≡◌, ◌<◌, length, drop};
+ghost use Rattle.std.specs.Prelude.{◌≡◌, ◌<◌, length, drop, position};
 ghost use Rattle.text.specs.Number.{digits_of};
 ghost use Rattle.digits.specs.Put.{Room, Put};
-ghost use Rattle.digits.specs.Decimal.{trimmed, decimal};
-
-use text::bytes::copy;
+ghost use Rattle.digits.specs.Decimal.{is_nonzero, trimmed, decimal};
 
 // No number has more digits.
 pub const MOST_DIGITS: usize = 10;
 
 // Puts a text at a place; gives the place behind it.
+#[tactic(auto, using(crate::proofs::Puts::text_put))]
 pub fn put(out: &mut [u8], at: usize, text: &[u8]) -> usize
     requires { Room out.old at text.now }
     ensures { Put out.old at text.now out.new result }
 {
     let end = at + text.len();
-    copy(&mut out[at..end], text);
+    out[at..end].copy_from_slice(text);
     end
 }
 
@@ -31,16 +30,16 @@ pub fn put(out: &mut [u8], at: usize, text: &[u8]) -> usize
 pub fn put_digits(to: &mut [u8], n: u32)
     ensures { to.new ≡ digits_of (length to.old) n }
 {
+    // By index: once `iter_mut().rev()` is over, a proof knows nothing of the bytes that it wrote.
     let mut rest = n;
-    let mut i = to.len();
-    while 0 < i {
-        i -= 1;
+    for i in (0..to.len()).rev() {
         to[i] = b'0' + (rest % 10) as u8;
-        rest = rest / 10;
+        rest /= 10;
     }
 }
 
 // Puts the last `size` digits of a number at a place; gives the place behind them.
+#[tactic(auto, using(crate::proofs::Puts::number_put))]
 pub fn put_number(out: &mut [u8], at: usize, size: usize, n: u32) -> usize
     requires { Room out.old at (digits_of size n) }
     ensures { Put out.old at (digits_of size n) out.new result }
@@ -50,19 +49,20 @@ pub fn put_number(out: &mut [u8], at: usize, size: usize, n: u32) -> usize
     end
 }
 
+// The place of the first digit that is no zero.
+fn first_nonzero(digits: &[u8]) -> Option<usize>
+    ensures { result ≡ position is_nonzero digits.now }
+{
+    digits.iter().position(|d| *d != b'0')
+}
+
 // The place that digits are read from: behind the zeros in front, and at the last digit at most.
 fn first_digit(digits: &[u8]) -> usize
     requires { 0 < length digits.now }
     ensures { (result < length digits.now) × (drop result digits.now ≡ trimmed digits.now) }
 {
-    let mut i: usize = 0;
-    while i + 1 < digits.len() {
-        if digits[i] != b'0' {
-            return i;
-        }
-        i += 1;
-    }
-    i
+    let last = digits.len() - 1;
+    first_nonzero(&digits[..last]).unwrap_or(last)
 }
 
 // Puts a number in decimal at a place; gives the place behind it.

@@ -3,5 +3,4 @@ pub mod Scan
 pub mod Unpad
 pub mod Identifiers
 pub mod Bytewise
-pub mod Words
 pub mod Put

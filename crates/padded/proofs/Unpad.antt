@@ -6,7 +6,7 @@ use mathlib.Core.Bool.{Bool, true, false}
 use Prim.Native.Nat.{ℕ, zero, suc, ◌-◌, ◌<◌, ◌≤◌}
 use native.Mathlib.Omega.{arith}
 use lib.ListN.{length, get_or, take, drop, replicate, take-append-drop, length-drop}
-use lib.Seq.{take-suc}
+use lib.Seq.{take-suc, take-length}
 use borrow.Author.Tests.{eqb-true, ne_eqb}
 use Rattle.text.specs.Byte.{Bytes, is_digit, is_alnum, every}
 use Rattle.text.proofs.Truth.{apart, and_left, and_right}
@@ -35,14 +35,14 @@ unpad-nil c [] e = go (is_space c) refl
   where
     go : (x : Bool) → is_space c ≡ x → is_space c ≡ true
     go true f = f
-    go false f = let z : ◌≡◌ {A = Bytes} (c ∷ []) [] = rw f at e in let n : ◌≡◌ {A = ℕ} 0 1 = cc in absurd (omega arith)
-unpad-nil c (x ∷ v) e = let n : ◌≡◌ {A = ℕ} 0 1 = cc in absurd (omega arith)
+    go false f = let z : ◌≡◌ {A = Bytes} (c ∷ []) [] = rw f at e in absurd cc
+unpad-nil c (x ∷ v) e = absurd cc
 
 pub unpad-head : (c d : ℕ) (v t : Bytes) → unpad_to c v ≡ d ∷ t → d ≡ c
 unpad-head c d [] t e = go (is_space c) refl
   where
     go : (x : Bool) → is_space c ≡ x → d ≡ c
-    go true f = let z : ◌≡◌ {A = Bytes} [] (d ∷ t) = rw f at e in let n : ◌≡◌ {A = ℕ} 0 1 = cc in absurd (omega arith)
+    go true f = let z : ◌≡◌ {A = Bytes} [] (d ∷ t) = rw f at e in absurd cc
     go false f = let z : ◌≡◌ {A = Bytes} (c ∷ []) (d ∷ t) = rw f at e in cc
 unpad-head c d (x ∷ v) t e = cc
 
@@ -139,21 +139,27 @@ last-stays (c ∷ s) b h = ap (unpad_to c) (last-stays s b h) ∙ not_empty s
     not_empty [] = refl
     not_empty (d ∷ t) = refl
 
-module _ (s : Bytes) (end : ℕ) (some : 0 < end) (within : end ≤ length s) (inv : unpad (take end s) ≡ unpad s) where
-  last_byte : take end s ≡ take (end - 1) s ++ get_or s (end - 1) 0 ∷ []
-  last_byte =
-      let e : suc (end - 1) ≡ end = omega arith in
-      rw e at (take-suc s (end - 1) 0 (omega arith))
+last_byte : (s : Bytes) → 1 ≤ length s → s ≡ take (length s - 1) s ++ get_or s (length s - 1) 0 ∷ []
+last_byte s some =
+    let e : suc (length s - 1) ≡ length s = omega arith in
+    sym (take-length s) ∙ rw e at (take-suc s (length s - 1) 0 (omega arith))
 
-  pub unpad_again : get_or s (end - 1) 0 ≡ space → unpad (take (end - 1) s) ≡ unpad s
-  unfolding every
-  unpad_again h =
-      sym (spaces_unpad (take (end - 1) s) (get_or s (end - 1) 0 ∷ []) (rw h)) ∙ ap unpad (sym last_byte) ∙ inv
+pub space_left_out : (s : Bytes) → get_or s (length s - 1) 0 ≡ space → unpad (take (length s - 1) s) ≡ unpad s
+unfolding every
+space_left_out [] h = absurd (omega arith)
+space_left_out (b ∷ s) h =
+    let t : Bytes = b ∷ s in
+    sym (spaces_unpad (take (length t - 1) t) (get_or t (length t - 1) 0 ∷ []) (rw h)) ∙ ap unpad (sym (last_byte t (omega arith)))
 
-  pub unpad-found : (get_or s (end - 1) 0 ≡ space → ⊥) → take end s ≡ unpad s
-  unpad-found h =
-      last_byte ∙ sym (last-stays (take (end - 1) s) (get_or s (end - 1) 0) (ne_eqb (get_or s (end - 1) 0) space h)) ∙ ap unpad (sym last_byte) ∙ inv
-
-pub unpad-none : (s : Bytes) (end : ℕ) → end ≤ 0 → unpad (take end s) ≡ unpad s → take end s ≡ unpad s
+pub other_stays : (s : Bytes) → (get_or s (length s - 1) 0 ≡ space → ⊥) → s ≡ unpad s
 unfolding unpad
-unpad-none s end h inv = let z : end ≡ 0 = omega arith in rw z (rw z at inv)
+other_stays [] h = refl
+other_stays (b ∷ s) h =
+    let t : Bytes = b ∷ s in
+    let last : t ≡ take (length t - 1) t ++ get_or t (length t - 1) 0 ∷ [] = last_byte t (omega arith) in
+    last ∙ sym (last-stays (take (length t - 1) t) (get_or t (length t - 1) 0) (ne_eqb (get_or t (length t - 1) 0) space h)) ∙ ap unpad (sym last)
+
+pub none_left : (s : Bytes) → length s < 1 → s ≡ unpad s
+unfolding unpad
+none_left [] h = refl
+none_left (b ∷ s) h = absurd (omega arith)

@@ -1,22 +1,15 @@
 -- The order of texts by bytes. Document 01, "Registry and cells".
 -- Assumes nothing.
-use Rattle.std.specs.Prelude.{[], ◌∷◌, Bool, true, false, cond, ltb}
+use Rattle.std.specs.Prelude.{Bool}
+use Rattle.std.specs.declared.cmp.Ordering.{Ordering}
+use Rattle.std.specs.Ordering.{nat_cmp, is_lt}
+use Rattle.std.specs.Cmp.Lexicographic.{slice_cmp}
 use Rattle.text.specs.Byte.{Bytes}
-use Rattle.padded.specs.declared.order.Order.{Order}
-use Rattle.padded.specs.declared.order.Order.TheVariants.{Less, Same, More}
 
--- how s stands to t
-unfoldable pub order : Bytes → Bytes → Order
-order [] [] = Same
-order [] (c ∷ t) = Less
-order (b ∷ s) [] = More
-order (b ∷ s) (c ∷ t) = cond (ltb b c) Less (cond (ltb c b) More (order s t))
-
-abbrev pub is_less : Order → Bool
-is_less Less = true
-is_less Same = false
-is_less More = false
+-- how s stands to t: the first bytes that differ decide, and a text stands behind its own beginnings
+unfoldable pub order : Bytes → Bytes → Ordering
+order s t = slice_cmp nat_cmp s t
 
 -- s stands before t
 abbrev pub below : Bytes → Bytes → Bool
-below s t = is_less (order s t)
+below s t = is_lt (order s t)

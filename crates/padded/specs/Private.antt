@@ -1,6 +1,6 @@
 -- What this crate's private functions answer. No promise of a public one cites it.
 -- Assumes nothing.
-use Rattle.std.specs.Prelude.{[], ◌∷◌, Bool, true, not, ◌&&◌, ◌||◌, ℕ, ◌+◌, ◌*◌}
+use Rattle.std.specs.Prelude.{Bool, true, not, ◌&&◌, ◌||◌, ℕ, fold, zip, length, slice_range}
 use Rattle.text.specs.Byte.{Bytes, is_alnum}
 use Rattle.padded.specs.Padding.{is_space}
 
@@ -8,16 +8,6 @@ use Rattle.padded.specs.Padding.{is_space}
 abbrev pub is_padded : ℕ → Bool
 is_padded b = is_alnum b || is_space b
 
--- no space stands before another byte
+-- no space stands before another byte: each byte with the one behind it
 unfoldable pub spaces_last : Bytes → Bool
-spaces_last [] = true
-spaces_last (b ∷ []) = true
-spaces_last (b ∷ c ∷ s) = (not (is_space b) || is_space c) && spaces_last (c ∷ s)
-
--- the number that bytes write, the first the highest, behind a number read so far
-unfoldable pub word_from : ℕ → Bytes → ℕ
-word_from n [] = n
-word_from n (b ∷ s) = word_from (n * 256 + b) s
-
-abbrev pub word : Bytes → ℕ
-word s = word_from 0 s
+spaces_last s = fold (λ ok pair. ok && (not (is_space pair.0) || is_space pair.1)) true (zip s (slice_range s 1 (length s)))

@@ -11,10 +11,11 @@ use borrow.Author.Tests.{ne_eqb, lt-leb, le-leb, lt-ltb, le-ltb}
 use Rattle.text.specs.Byte.{Bytes}
 use Rattle.text.specs.Identifier.{esi_id_size}
 use Rattle.text.proofs.Left.{left-cons}
-use Rattle.padded.specs.Order.{order, below, is_less}
+use Rattle.padded.specs.Order.{order, below}
 use Rattle.padded.specs.Padding.{is_padded_esi_id, is_padded_duns}
-use Rattle.padded.specs.declared.order.Order.{Order}
-use Rattle.padded.specs.declared.order.Order.TheVariants.{Less, Same, More}
+use Rattle.std.specs.declared.cmp.Ordering.{Ordering}
+use Rattle.std.specs.declared.cmp.Ordering.TheVariants.{Less, Equal, Greater}
+use Rattle.std.specs.Ordering.{is_lt}
 use Rattle.padded.proofs.Bytewise.{less-some}
 use Rattle.registry.specs.Entry.{owner_size, meter_size, all_flags, is_meter, entry_kind}
 use Rattle.registry.specs.Registry.{max_meters, in_order}
@@ -114,15 +115,15 @@ module _ (reg : Bytes) (owner last count at : ℕ) where
     first-meter e =
         sym (by_order ∙ rw (e, less-some (take esi_id_size (drop (at + 1) reg)) (rw (text-length reg at esi_id_size (omega arith)) (omega arith))))
 
-    module _ (nl : last ≡ 0 → ⊥) (s t : Bytes) (es : s ≡ take esi_id_size (drop (last + 1) reg)) (et : t ≡ take esi_id_size (drop (at + 1) reg)) (o : Order) (eo : o ≡ order s t) where
-      by_texts : in_order (seen_at reg owner last count) (drop (at + 1) reg) ≡ is_less o
+    module _ (nl : last ≡ 0 → ⊥) (s t : Bytes) (es : s ≡ take esi_id_size (drop (last + 1) reg)) (et : t ≡ take esi_id_size (drop (at + 1) reg)) (o : Ordering) (eo : o ≡ order s t) where
+      by_texts : in_order (seen_at reg owner last count) (drop (at + 1) reg) ≡ is_lt o
       by_texts = by_order ∙ rw (text_at_lem esi_id_size reg last (omega (arith, nl)), ← es, ← et, ← eo)
 
       pub meter-less : o ≡ Less → true ≡ in_order (seen_at reg owner last count) (drop (at + 1) reg)
       meter-less e = sym (by_texts ∙ rw e)
 
-      pub meter-same : o ≡ Same → false ≡ in_order (seen_at reg owner last count) (drop (at + 1) reg)
+      pub meter-same : o ≡ Equal → false ≡ in_order (seen_at reg owner last count) (drop (at + 1) reg)
       meter-same e = sym (by_texts ∙ rw e)
 
-      pub meter-more : o ≡ More → false ≡ in_order (seen_at reg owner last count) (drop (at + 1) reg)
+      pub meter-more : o ≡ Greater → false ≡ in_order (seen_at reg owner last count) (drop (at + 1) reg)
       meter-more e = sym (by_texts ∙ rw e)

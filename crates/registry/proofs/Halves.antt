@@ -14,9 +14,9 @@ use Rattle.text.specs.Byte.{Bytes, equals}
 use Rattle.text.specs.Identifier.{esi_id_size}
 use Rattle.text.proofs.Equal.{equals_path}
 use Rattle.padded.specs.Order.{order}
-use Rattle.padded.specs.declared.order.Order.{Order}
-use Rattle.padded.specs.declared.order.Order.TheVariants.{Less, Same, More}
-use Rattle.padded.proofs.Bytewise.{order_same, less-apart, more-apart, order_flip, order_flop, order_trans}
+use Rattle.std.specs.declared.cmp.Ordering.{Ordering}
+use Rattle.std.specs.declared.cmp.Ordering.TheVariants.{Less, Equal, Greater}
+use Rattle.padded.proofs.Bytewise.{equal_by, flipped, order_trans}
 use Rattle.registry.specs.Entry.{owner_size, meter_size}
 use Rattle.registry.specs.Registry.{Meter, meters_of}
 use Rattle.registry.specs.Index.{no_meter, meter_at, MeterAt, OwnerAt, Places, find_meter, onward}
@@ -71,7 +71,7 @@ module _ (id : Bytes) where
 pub found-only : (reg id : Bytes) (i : ℕ) → i < length (meters_of reg) → equals (meter_at reg i).id id ≡ true → find_meter id (meters_of reg) ≡ At i
 found-only reg id i l e =
     let f : (meter_at reg i).id ≡ id = equals_path (meter_at reg i).id id e in
-    found_at id (meters_of reg) i l (λ k h. less-apart (meter_at reg k).id id (rw f at (meters_ascend reg k i h l))) e
+    found_at id (meters_of reg) i l (λ k h. equal_by (meter_at reg k).id id Less (rw f at (meters_ascend reg k i h l))) e
 
 -- ---- WHAT AN ENTRY'S BYTES TELL, as the code reads them at a meter's place
 
@@ -105,7 +105,7 @@ pub record Bracket (reg id : Bytes) (count low high : ℕ) : Type 0 where
   pub low-to : low ≤ high
   pub high-to : high ≤ count
   pub before : (k : ℕ) → k < low → order (meter_at reg k).id id ≡ Less
-  pub after : (k : ℕ) → high ≤ k → k < count → order (meter_at reg k).id id ≡ More
+  pub after : (k : ℕ) → high ≤ k → k < count → order (meter_at reg k).id id ≡ Greater
 
 pub bracket_all : (reg id : Bytes) (count : ℕ) → length (meters_of reg) ≡ count → Bracket reg id count 0 count
 bracket_all reg id count n = record {
@@ -132,16 +132,16 @@ module _ (reg id : Bytes) (count low high : ℕ) (b : Bracket reg id count low h
   bracket_none h = sym (not_found id (meters_of reg) (λ k l. go k (omega (arith, b.counted)) (ltb k low) refl))
     where
       go : (k : ℕ) → k < count → (x : Bool) → ltb k low ≡ x → equals (meter_at reg k).id id ≡ false
-      go k l true e = less-apart (meter_at reg k).id id (b.before k (ltb-true k low e))
-      go k l false e = more-apart (meter_at reg k).id id (b.after k (omega (arith, ltb-false k low e)) l)
+      go k l true e = equal_by (meter_at reg k).id id Less (b.before k (ltb-true k low e))
+      go k l false e = equal_by (meter_at reg k).id id Greater (b.after k (omega (arith, ltb-false k low e)) l)
 
   module _ (m : ℕ) (lm : low ≤ m) (mh : m < high) (places : List ℕ) (p : Places reg MeterAt places count) (t : Bytes)
-      (et : t ≡ take esi_id_size (drop (get_or places m 0 + 1) reg)) (o : Order) (eo : o ≡ order t id) where
+      (et : t ≡ take esi_id_size (drop (get_or places m 0 + 1) reg)) (o : Ordering) (eo : o ≡ order t id) where
     here : order (meter_at reg m).id id ≡ o
     here = sym (eo ∙ rw (id-here reg places count m p (omega (arith, b.high-to)) t et))
 
-    pub bracket_found : o ≡ Same → At m ≡ find_meter id (meters_of reg)
-    bracket_found e = sym (found-only reg id m (omega (arith, b.counted, b.high-to)) (order_same (meter_at reg m).id id (here ∙ e)))
+    pub bracket_found : o ≡ Equal → At m ≡ find_meter id (meters_of reg)
+    bracket_found e = sym (found-only reg id m (omega (arith, b.counted, b.high-to)) (equal_by (meter_at reg m).id id Equal (here ∙ e)))
 
     pub bracket_up : o ≡ Less → Bracket reg id count (m + 1) high
     bracket_up e = record {
@@ -156,7 +156,7 @@ module _ (reg id : Bytes) (count low high : ℕ) (b : Bracket reg id count low h
       after = b.after;
     }
 
-    pub bracket_down : o ≡ More → Bracket reg id count low m
+    pub bracket_down : o ≡ Greater → Bracket reg id count low m
     bracket_down e = record {
       counted = b.counted;
       low-to = lm;
@@ -164,8 +164,8 @@ module _ (reg id : Bytes) (count low high : ℕ) (b : Bracket reg id count low h
       before = b.before;
       after = λ k h l. ⊎_elim
           (λ (q : m ≡ k). rw q at (here ∙ e))
-          (λ (q : m < k). order_flop id (meter_at reg k).id
+          (λ (q : m < k). flipped id (meter_at reg k).id Less
           (order_trans id (meter_at reg m).id (meter_at reg k).id
-          (order_flip (meter_at reg m).id id (here ∙ e)) (meters_ascend reg m k q (omega (arith, b.counted)))))
+          (flipped (meter_at reg m).id id Greater (here ∙ e)) (meters_ascend reg m k q (omega (arith, b.counted)))))
           (eq-or-lt_of_le h);
     }

@@ -13,7 +13,7 @@ use Rattle.text.specs.Identifier.{esi_id_size}
 use Rattle.text.proofs.Truth.{apart}
 use Rattle.padded.specs.Order.{order}
 use Rattle.padded.specs.Padding.{is_padded_esi_id, is_padded_duns}
-use Rattle.padded.specs.declared.order.Order.TheVariants.{Less}
+use Rattle.std.specs.declared.cmp.Ordering.TheVariants.{Less}
 use Rattle.padded.proofs.Bytewise.{order_trans}
 use Rattle.registry.specs.Entry.{window_size, owner_size, all_flags, start_of}
 use Rattle.registry.specs.Registry.{Registry, Meter, Seen, max_meters, none_seen, entries, start_with, registry_of, is_some, meters_in, no_window, window_in, is_registry, meters_of, window_is}

@@ -11,8 +11,7 @@ use borrow.Author.Tests.{ne_eqb, lt-leb, le-leb, leb-true, leb-false}
 use Rattle.calendar.specs.Date.{is_date}
 use Rattle.calendar.specs.Day.{day_number, last_day}
 use Rattle.calendar.specs.Answer.{day_is}
-use Rattle.calendar.specs.declared.Day.{Day}
-use Rattle.calendar.specs.declared.Day.TheVariants.{Number, NoDate}
+use Rattle.std.specs.Prelude.{Option, Some, None}
 use Rattle.calendar.proofs.Laws.{day-low}
 use Rattle.text.specs.Byte.{Bytes, is_digit, every}
 use Rattle.text.specs.Number.{number, Digits}
@@ -26,30 +25,30 @@ use Rattle.registry.specs.declared.entry.Start.TheVariants.{From, NoWindow}
 
 -- ---- the day of a date, or no date
 
-date_number : (date n : ℕ) (t : Bool) → cond t (Number (day_number date)) NoDate ≡ Number n → (t ≡ true) × (n ≡ day_number date)
+date_number : (date n : ℕ) (t : Bool) → cond t (Some (day_number date)) None ≡ Some n → (t ≡ true) × (n ≡ day_number date)
 date_number date n true e = (refl, cc)
-date_number date n false e = let z : ◌≡◌ {A = ℕ} 0 1 = cc in absurd (omega arith)
+date_number date n false e = absurd cc
 
-date_none : (date : ℕ) (t : Bool) → cond t (Number (day_number date)) NoDate ≡ NoDate → t ≡ false
-date_none date true e = let z : ◌≡◌ {A = ℕ} 0 1 = cc in absurd (omega arith)
+date_none : (date : ℕ) (t : Bool) → cond t (Some (day_number date)) None ≡ None → t ≡ false
+date_none date true e = absurd cc
 date_none date false e = refl
 
-module _ (date : ℕ) (answer : Day) (ea : answer ≡ day_is date) where
-  is-day : (n : ℕ) → answer ≡ Number n → (is_date date ≡ true) × (n ≡ day_number date)
+module _ (date : ℕ) (answer : Option ℕ) (ea : answer ≡ day_is date) where
+  is-day : (n : ℕ) → answer ≡ Some n → (is_date date ≡ true) × (n ≡ day_number date)
   unfolding day_is
   is-day n e = date_number date n (is_date date) (sym ea ∙ e)
 
-  is_no_day : answer ≡ NoDate → is_date date ≡ false
+  is_no_day : answer ≡ None → is_date date ≡ false
   unfolding day_is
   is_no_day e = date_none date (is_date date) (sym ea ∙ e)
 
-  day-within : (n : ℕ) → answer ≡ Number n → n ≤ last_day
+  day-within : (n : ℕ) → answer ≡ Some n → n ≤ last_day
   day-within n e =
       let d = is-day n e in
       rw d.1 (day-low date d.0)
 
 -- the sum that the code tests is small
-pub sum_low : (date : ℕ) (answer : Day) → answer ≡ day_is date → (first : ℕ) → answer ≡ Number first → (t : Bytes) (days : ℕ) → Digits 9 t → days ≡ number t
+pub sum_low : (date : ℕ) (answer : Option ℕ) → answer ≡ day_is date → (first : ℕ) → answer ≡ Some first → (t : Bytes) (days : ℕ) → Digits 9 t → days ≡ number t
     → first + days < 10 ^ 9 + 10 ^ 5
 sum_low date answer ea first ef t days d ey = omega (arith, day-within date answer ea first ef, number-below 9 t days d ey)
 
@@ -98,15 +97,15 @@ module _ (reg : Bytes) (n : window_size < length reg) (e : get_or reg 0 0 ≡ 1)
   start_letters h = sym (start-here ∙ rw (← er, h))
 
   module _ (h : r ≡ true) where
-    module _ (date days : ℕ) (ed : date ≡ number (take 8 body)) (ey : days ≡ number (take (length body - 8) (drop 8 body))) (answer : Day) (ea : answer ≡ day_is date) where
-      pub start_no_date : answer ≡ NoDate → NoWindow ≡ start_of reg
+    module _ (date days : ℕ) (ed : date ≡ number (take 8 body)) (ey : days ≡ number (take (length body - 8) (drop 8 body))) (answer : Option ℕ) (ea : answer ≡ day_is date) where
+      pub start_no_date : answer ≡ None → NoWindow ≡ start_of reg
       unfolding is_window
       start_no_date f = sym (start-here ∙ rw (digits body r er h, ← ed, is_no_day date answer ea f))
 
       days-here : days_text body ≡ days
       days-here = sym (ey ∙ rw (left-whole body 8))
 
-      module _ (first : ℕ) (ef : answer ≡ Number first) where
+      module _ (first : ℕ) (ef : answer ≡ Some first) where
         by_tests : is_window body ≡ (leb 1 days && leb days max_days && leb (first + days - 1) last_day)
         unfolding is_window
         by_tests =

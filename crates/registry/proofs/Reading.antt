@@ -15,7 +15,7 @@ use Rattle.text.specs.Identifier.{esi_id_size}
 use Rattle.text.proofs.Truth.{and_left, and_right}
 use Rattle.padded.specs.Order.{order, below}
 use Rattle.padded.specs.Padding.{is_padded_esi_id, is_padded_duns}
-use Rattle.padded.specs.declared.order.Order.TheVariants.{Less}
+use Rattle.std.specs.declared.cmp.Ordering.TheVariants.{Less}
 use Rattle.padded.proofs.Bytewise.{less_of}
 use Rattle.registry.specs.Entry.{window_size, owner_size, meter_size, all_flags, is_meter, start_of, entry_kind}
 use Rattle.registry.specs.Registry.{Meter, Seen, max_meters, none_seen, with_owner, with_meter, in_order, meter_of, before, by_kind, entries, start_with, meters_in, registry_of, meters_of}

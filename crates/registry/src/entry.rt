@@ -2,7 +2,7 @@
 ghost use Rattle.std.specs.Prelude.{◌≡◌, ◌+◌, ◌<◌, length, take, drop};
 ghost use Rattle.registry.specs.Entry.{start_of, entry_kind};
 
-use calendar::{Day, LAST_DAY, day_number};
+use calendar::{LAST_DAY, day_number};
 use padded::padding::{is_padded_duns, is_padded_esi_id};
 use text::bytes::all_digits;
 use text::names::{DUNS_SIZE, ESI_ID_SIZE};
@@ -75,7 +75,7 @@ pub fn read_start(registry: &[u8]) -> Start
     }
     let date = number_of(&body[..DATE_SIZE]);
     let days = number_of(&body[DATE_SIZE..]);
-    let Day::Number(first) = day_number(date) else {
+    let Some(first) = day_number(date) else {
         return Start::NoWindow;
     };
     if (1 <= days) & (days <= MAX_DAYS) & (first + days <= LAST_DAY + 1) {

@@ -24,7 +24,8 @@ pub mod entry;
 use entry::{
     Kind, METER_SIZE, OWNER_SIZE, Start, WINDOW_SIZE, Window, kind_at, read_start, text_at,
 };
-use padded::order::{Order, compare};
+use padded::order::compare;
+use std::cmp::Ordering;
 use text::bytes::same;
 use text::names::ESI_ID_SIZE;
 
@@ -67,9 +68,9 @@ fn in_order(registry: &[u8], owner: usize, last: usize, count: usize, at: usize)
         text_at(registry, last, ESI_ID_SIZE),
         text_at(registry, at, ESI_ID_SIZE),
     ) {
-        Order::Less => true,
-        Order::Same => false,
-        Order::More => false,
+        Ordering::Less => true,
+        Ordering::Equal => false,
+        Ordering::Greater => false,
     }
 }
 
@@ -141,13 +142,13 @@ fn search(registry: &[u8], meters: &[usize], count: usize, id: &[u8]) -> Found
     while low < high {
         let middle = low + (high - low) / 2;
         match compare(text_at(registry, meters[middle], ESI_ID_SIZE), id) {
-            Order::Less => {
+            Ordering::Less => {
                 low = middle + 1;
             }
-            Order::Same => {
+            Ordering::Equal => {
                 return Found::At(middle);
             }
-            Order::More => {
+            Ordering::Greater => {
                 high = middle;
             }
         }

@@ -1,12 +1,18 @@
--- `calendar::month_of` meets its contract. The loop's invariant: the day is in a month from `low` on and before `high`; the measure is their distance.
+-- `calendar::month_of` meets its contract: the table is in order, so the months before the point, and no others, begin on the day or before.
 -- Assumes nothing.
-use Prim.Native.Nat.{◌-◌}
+use lib.Dec.{leb}
 use borrow.Author.Rules.{rules}
-use Rattle.calendar.proofs.Table.{between-all, between-one}
+use Rattle.std.proofs.lemmas.List.Sorted.{IsPartitionPoint-from_clause}
+use Rattle.calendar.specs.declared.months.TheConstants.{FIRST_DAYS}
+use Rattle.calendar.proofs.Table.{parted, Begun, some_begun, last_begun}
 use Rattle.calendar.proofs.month_of.Goals as goal
 
-pub loop-low-init : goal.loop-low-init
-loop-low-init c = between-all _ c.requires
+begun : (c : goal.After-partition_point) → Begun c.args.day c.partition_point.result
+begun c =
+    IsPartitionPoint-from_clause (λ first. leb first c.args.day) FIRST_DAYS _ c.partition_point.ensures.partitioned (parted c.args.day) (λ a r f k. search rules)
+
+pub overflow_sub-result : goal.overflow_sub-result
+overflow_sub-result c = some_begun _ _ c.requires c.partition_point.ensures.bound (begun c)
 
 pub returns : goal.returns
-returns c = between-one _ _ _ c.loop-low.invariant (search rules)
+returns c = last_begun _ _ c.requires c.partition_point.ensures.bound (begun c)

@@ -20,8 +20,8 @@ text_at-requires c = omega (arith, c.requires.meter_size_in_bounds_2 (omega arit
 pub returns-in-Less : goal.returns-in-Less
 returns-in-Less c = search (meter-less, rules)
 
-pub returns-in-Same : goal.returns-in-Same
-returns-in-Same c = search (meter-same, rules)
+pub returns-in-Equal : goal.returns-in-Equal
+returns-in-Equal c = search (meter-same, rules)
 
-pub returns-in-More : goal.returns-in-More
-returns-in-More c = search (meter-more, rules)
+pub returns-in-Greater : goal.returns-in-Greater
+returns-in-Greater c = search (meter-more, rules)

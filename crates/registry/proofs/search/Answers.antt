@@ -13,8 +13,8 @@ text_at-requires c = search (id-within, middle-within, rules)
 pub loop-low-preserved-in-Less : goal.loop-low-preserved-in-Less
 loop-low-preserved-in-Less c = search (bracket_up, middle-from, middle-below, rules)
 
-pub returns-in-Same : goal.returns-in-Same
-returns-in-Same c = search (bracket_found, middle-from, middle-below, rules)
+pub returns-in-Equal : goal.returns-in-Equal
+returns-in-Equal c = search (bracket_found, middle-from, middle-below, rules)
 
 pub loop-low-preserved : goal.loop-low-preserved
 loop-low-preserved c = search (bracket_down, middle-from, middle-below, rules)

@@ -1,21 +1,15 @@
 -- `padded::padding::unpadded` meets its contract.
 -- Assumes nothing.
-use mathlib.Core.Path.{ap}
-use native.Mathlib.Numerals.{unary_clauses}
-use native.Mathlib.Omega.{arith}
-use lib.Seq.{take-length}
-use Rattle.padded.specs.Padding.{unpad}
-use Rattle.padded.proofs.Unpad.{unpad_again, unpad-found, unpad-none}
+use mathlib.Core.Path.{◌∙◌}
+use borrow.Author.Rules.{rules}
+use Rattle.padded.proofs.Unpad.{space_left_out, other_stays, none_left}
 use Rattle.padded.proofs.padding.unpadded.Goals as goal
 
-pub loop-end-init : goal.loop-end-init
-loop-end-init c = (omega arith, ap unpad (take-length c.args.s.now))
+pub loop-left-preserved : goal.loop-left-preserved
+loop-left-preserved c = space_left_out _ (search rules) ∙ c.loop-left.invariant
 
-pub returns-then-s-end-ne-SPACE : goal.returns-then-s-end-ne-SPACE
-returns-then-s-end-ne-SPACE c = simp unary_clauses (unpad-found _ _ c.loop-end-test.true c.loop-end.invariant.0 c.loop-end.invariant.1 c.if-s-end-ne-SPACE.true)
+pub returns-in_default : goal.returns-in_default
+returns-in_default c = none_left _ c.in_default.len_below ∙ c.loop-left.invariant
 
-pub loop-end-preserved : goal.loop-end-preserved
-loop-end-preserved c = (omega arith, unpad_again _ _ c.loop-end-test.true c.loop-end.invariant.0 c.loop-end.invariant.1 c.if-s-end-ne-SPACE.false)
-
-pub returns : goal.returns
-returns c = simp unary_clauses (unpad-none _ _ c.loop-end-test.false c.loop-end.invariant.1)
+pub returns-in_default-2 : goal.returns-in_default-2
+returns-in_default-2 c = other_stays _ (search rules) ∙ c.loop-left.invariant

@@ -28,7 +28,7 @@ pub returns-in_default : goal.returns-in_default
 returns-in_default c = search (start_no_date, rules)
 
 pub overflow_add-first : goal.overflow_add-first
-overflow_add-first c = omega (arith, sum_low _ _ c.day_number.ensures _ c.in-Number.is _ _ (days-digits _ _ c.all_digits.ensures c.if-not-all_digits.false c.text_at-body.ensures.1) c.number_of-days.ensures)
+overflow_add-first c = omega (arith, sum_low _ _ c.day_number.ensures _ c.in-Some.is _ _ (days-digits _ _ c.all_digits.ensures c.if-not-all_digits.false c.text_at-body.ensures.1) c.number_of-days.ensures)
 
 pub returns-then-days-first : goal.returns-then-days-first
 returns-then-days-first c = search (start_right, rules)

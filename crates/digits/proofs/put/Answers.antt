@@ -1,7 +1,0 @@
--- `digits::put` meets its contract.
--- Assumes nothing.
-use Rattle.digits.proofs.Puts.{text-put}
-use Rattle.digits.proofs.put.Goals as goal
-
-pub returns : goal.returns
-returns c = search text-put
