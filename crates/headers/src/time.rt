@@ -22,7 +22,7 @@ pub struct Time {
 }
 
 // When a read was made: of the reads for a cell the one with the latest stamp wins.
-#[derive(Clone, Copy)]
+#[derive(Clone, Copy, Debug, PartialEq, Eq, PartialOrd, Ord)]
 pub struct Stamp {
     pub date: u32,
     pub clock: u32,
