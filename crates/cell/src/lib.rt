@@ -66,15 +66,12 @@ impl Cell {
 }
 
 // Clears the words of a cell.
+#[tactic(auto, unfolding(crate::specs::Read::cleared))]
 fn clear(words: &mut [u32])
     requires { length words.old ≡ width }
     ensures { words.new ≡ cleared }
 {
-    let mut i: usize = 0;
-    while i < Cell::WIDTH {
-        words[i] = 0;
-        i += 1;
-    }
+    words.fill(0);
 }
 
 // Begins a read of so many intervals, in words that another read may have used.
@@ -131,9 +128,5 @@ pub fn copy(to: &mut [u32], from: &[u32])
     requires { (length to.old ≡ width) × (length from.now ≡ width) }
     ensures { to.new ≡ from.now }
 {
-    let mut k: usize = 0;
-    while k < Cell::WIDTH {
-        to[k] = from[k];
-        k += 1;
-    }
+    to.copy_from_slice(from);
 }

@@ -14,7 +14,7 @@ pub fn set_mark(words: &mut [u32], i: usize)
     ensures statuses { statuses mark_bits words.new ≡ set (statuses mark_bits words.old) i true }
 {
     let at = Cell::MARKS + i / WORD_BITS;
-    words[at] = words[at] | (1 << (i % WORD_BITS));
+    words[at] |= 1 << (i % WORD_BITS);
 }
 
 // Whether interval i is estimated.

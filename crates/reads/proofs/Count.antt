@@ -8,10 +8,12 @@ use native.Mathlib.Omega.{arith}
 use lib.Dec.{eqb, lit<}
 use lib.Pow.{pow_pos, mod-pow-add}
 use lib.Count.{ones, ones_cat, ones-ones, ones-le}
-use lib.ListN.{get_or, drop}
+use lib.ListN.{length, get_or, take, drop, length-drop}
+use lib.Seq.{length-take-le}
+use Rattle.std.proofs.lemmas.List.{get_or-take, get_or-drop}
 use Rattle.text.specs.Byte.{every}
 use Rattle.text.proofs.Truth.{and_right}
-use Rattle.cell.specs.Layout.{Words, count_at, marks_at, values_at, max_intervals, word_bits, mark_bits}
+use Rattle.cell.specs.Layout.{Words, width, count_at, marks_at, values_at, max_intervals, word_bits, mark_bits}
 use Rattle.cell.specs.Marks.{bit, is_estimated, one, estimated}
 use Rattle.reads.specs.Sound.{is_real_stamp, is_value, is_zero, values_of, is_sound}
 use Rattle.cell.specs.Read.{stamp_in}
@@ -60,25 +62,31 @@ estimated-word w j (suc k) h =
 
 -- ---- the count, word by word
 
--- the words up to place `at`
-abbrev pub count_to : ℕ → Words → ℕ
-count_to at w = estimated ((at - marks_at) * word_bits) w
+-- the words of the marks
+abbrev pub mark_words : Words → Words
+mark_words w = take (values_at - marks_at) (drop marks_at w)
 
-module _ (w : Words) (at n : ℕ) (so_far : n ≡ count_to at w) (from : marks_at ≤ at) (fits : get_or w at 0 < 2 ^ word_bits) where
-  pub count_again : n + ones (get_or w at 0) ≡ count_to (at + 1) w
-  count_again =
-      let here : marks_at + (at - marks_at) ≡ at = omega arith in
-      let next : (at - marks_at) * word_bits + word_bits ≡ (at + 1 - marks_at) * word_bits = omega arith in
-      let word : get_or w at 0 % 2 ^ word_bits ≡ get_or w at 0 = mod-eq_of_lt fits in
-      sym (rw (here, next, word, ← so_far) at (estimated-word w (at - marks_at) word_bits (omega arith)))
+mark_words_length : (w : Words) → length w ≡ width → length (mark_words w) ≡ values_at - marks_at
+mark_words_length w wide = length-take-le (values_at - marks_at) (drop marks_at w) (simp length-drop (omega arith))
 
-  pub count_fits : at < values_at → Fits w32 (n + ones (get_or w at 0))
-  count_fits h = record { fits = omega (arith, estimated_le ((at - marks_at) * word_bits) w, ones-le word_bits (get_or w at 0) fits) }
+module _ (w : Words) (wide : length w ≡ width) (i n : ℕ) (so_far : n ≡ estimated (i * word_bits) w) where
+  module _ (h : i < length (mark_words w)) (fits : get_or w (marks_at + i) 0 < 2 ^ word_bits) where
+    word : get_or (mark_words w) i 0 ≡ get_or w (marks_at + i) 0
+    word = get_or-take (values_at - marks_at) (drop marks_at w) i 0 (omega (arith, mark_words_length w wide)) ∙ get_or-drop marks_at w i 0
 
-pub count-end : (w : Words) (at n : ℕ) → n ≡ count_to at w → at ≤ values_at → values_at ≤ at → n ≡ estimated mark_bits w
-count-end w at n so_far h g =
-    let e : at ≡ values_at = omega arith in
-    rw e at so_far
+    pub count_again : n + ones (get_or (mark_words w) i 0) ≡ estimated ((i + 1) * word_bits) w
+    count_again =
+        let next : i * word_bits + word_bits ≡ (i + 1) * word_bits = omega arith in
+        rw word (sym (rw (next, mod-eq_of_lt fits, ← so_far) at (estimated-word w i word_bits (omega arith))))
+
+    pub count_fits : Fits w32 (n + ones (get_or (mark_words w) i 0))
+    count_fits =
+        rw word record { fits = omega (arith, mark_words_length w wide, estimated_le (i * word_bits) w, ones-le word_bits (get_or w (marks_at + i) 0) fits) }
+
+  pub count_end : i ≤ length (mark_words w) → length (mark_words w) ≤ i → n ≡ estimated mark_bits w
+  count_end h g =
+      let all : i * word_bits ≡ mark_bits = omega (arith, mark_words_length w wide) in
+      so_far ∙ rw all
 
 -- ---- a sound cell
 

@@ -9,6 +9,7 @@ use lib.ListN.{length, get_or, drop, length-drop, get_or-eq_default}
 use lib.Seq.{get_or-drop, ext_get_or}
 use borrow.Author.Tests.{eqb-true, eqb-false, eq-eqb, ltb-true, ltb-false, le-leb}
 use Rattle.text.specs.Byte.{every}
+use Rattle.text.proofs.Class.{every_from}
 use Rattle.text.proofs.Truth.{and_both}
 use Rattle.headers.specs.declared.time.Stamp.{Stamp}
 use Rattle.cell.specs.Layout.{Words, width, count_at, date_at, clock_at, marks_at, values_at, max_intervals, word_bits, mark_bits}
@@ -17,7 +18,7 @@ use Rattle.cell.specs.Read.{stamp_in, no_interval, Holds}
 use Rattle.reads.specs.Sound.{is_real_stamp, max_value, is_value, is_zero, no_mark, values_of, is_sound}
 use Rattle.cell.proofs.Bits.{bits_same}
 use Rattle.cell.proofs.Marks.{in_word, statuses-length, statuses-at}
-use Rattle.reads.proofs.Scan.{every_from, none_from_lem}
+use Rattle.reads.proofs.Scan.{none_from_lem}
 use Rattle.cell.proofs.Built.{Intervals}
 
 -- ---- soundness

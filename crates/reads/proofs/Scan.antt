@@ -2,10 +2,11 @@
 -- Assumes nothing.
 use mathlib.Core.Path.{◌≡◌, refl, sym, ap, ◌∙◌}
 use mathlib.Core.List.{List, [], ◌∷◌}
-use mathlib.Core.Bool.{Bool, true, false, not, ◌&&◌, and-true, and_assoc}
+use mathlib.Core.Bool.{Bool, true, false, not, ◌&&◌, and_assoc}
 use Prim.Native.Nat.{ℕ, zero, suc, ◌+◌, ◌-◌, ◌*◌, ◌/◌, ◌%◌, ◌^◌, ◌≤◌, ◌<◌}
 use native.Mathlib.Nat.{div-one}
 use native.Mathlib.Omega.{arith}
+use native.Mathlib.Numerals.{add-one}
 use lib.Dec.{eqb}
 use lib.Pow.{shr_lt}
 use lib.ListN.{length, get_or, take, drop, length-drop, drop_of_length-le}
@@ -14,9 +15,9 @@ use borrow.Author.Tests.{not-true}
 use Rattle.text.specs.Byte.{every}
 use Rattle.text.proofs.Left.{left-whole}
 use Rattle.text.proofs.Truth.{and_left, and_right, and_both}
-use Rattle.cell.specs.Layout.{Words, marks_at, values_at, word_bits, mark_bits}
+use Rattle.cell.specs.Layout.{Words, width, marks_at, values_at, word_bits, mark_bits}
 use Rattle.cell.specs.Marks.{bit, mark_word, is_estimated, statuses}
-use Rattle.reads.specs.Sound.{no_mark, values_of}
+use Rattle.reads.specs.Sound.{is_zero, no_mark, values_of}
 use Rattle.cell.proofs.Bits.{zero_bit}
 use Rattle.cell.proofs.Marks.{in_word, statuses-length, statuses-at}
 
@@ -28,11 +29,6 @@ values_are w = left-whole w values_at
 
 pub unused_are : (w : Words) (n : ℕ) → take (length w - (values_at + n)) (drop (values_at + n) w) ≡ drop n (values_of w)
 unused_are w n = left-whole w (values_at + n) ∙ sym (drop-drop n values_at w)
-
-pub every_from : (class : ℕ → Bool) (s : Words) → ((i : ℕ) → i < length s → class (get_or s i 0) ≡ true) → every class s ≡ true
-unfolding every
-every_from class [] h = refl
-every_from class (v ∷ s) h = and_both (class v) (every class s) (h 0 (omega arith)) (every_from class s (λ i l. h (suc i) (omega arith)))
 
 -- ---- no mark
 
@@ -91,24 +87,26 @@ none-whole w at from h fits =
     let next : suc (at - marks_at) * word_bits ≡ (at + 1 - marks_at) * word_bits = omega arith in
     rw (start, here, next, div-one) at (none-word w (at - marks_at) 0 word_bits (omega arith) (omega arith) (rw here fits))
 
--- the code: the word of interval n, and each word behind it
 module _ (w : Words) (n : ℕ) where
-  pub clear_first : n < mark_bits → get_or w (mark_word n) 0 < 2 ^ word_bits
+  clear_first : n < mark_bits → get_or w (mark_word n) 0 < 2 ^ word_bits
       → none_from n w ≡ (eqb (get_or w (mark_word n) 0 / 2 ^ (n % word_bits)) 0 && none_from ((mark_word n + 1 - marks_at) * word_bits) w)
   clear_first h fits =
       let e : n / word_bits * word_bits + n % word_bits ≡ n = omega arith in
       let next : suc (n / word_bits) * word_bits ≡ (mark_word n + 1 - marks_at) * word_bits = omega arith in
       rw (e, next) at (none-word w (n / word_bits) (n % word_bits) (word_bits - n % word_bits) (omega arith) (omega arith) fits)
 
-  module _ (at : ℕ) (ok : Bool) (inv : none_from n w ≡ (ok && none_from ((at - marks_at) * word_bits) w)) where
-    pub clear_again : marks_at ≤ at → at < values_at → get_or w at 0 < 2 ^ word_bits
-        → none_from n w ≡ ((ok && eqb (get_or w at 0) 0) && none_from ((at + 1 - marks_at) * word_bits) w)
-    clear_again from h fits =
-        inv ∙ rw (none-whole w at from h fits) (sym (and_assoc ok (eqb (get_or w at 0) 0) (none_from ((at + 1 - marks_at) * word_bits) w)))
+-- whole words from a place on
+none_words : (w : Words) (at m : ℕ) → at + m ≡ values_at → marks_at ≤ at → length w ≡ width → ((i : ℕ) → get_or w i 0 < 2 ^ word_bits)
+    → none_from ((at - marks_at) * word_bits) w ≡ every is_zero (take m (drop at w))
+unfolding no_mark every
+none_words w at zero e from wide fits =
+    let l : length (statuses mark_bits w) ≤ (at - marks_at) * word_bits = rw (statuses-length mark_bits w) (omega arith) in
+    rw (drop_of_length-le (statuses mark_bits w) l)
+none_words w at (suc m) e from wide fits =
+    rw (none-whole w at from (omega arith) (fits at), drop-cons w at 0 (omega arith), ← add-one at, none_words w (at + 1) m (omega arith) (omega arith) wide fits)
 
-    pub clear_end : at ≤ values_at → values_at ≤ at → ok ≡ none_from n w
-    unfolding no_mark
-    clear_end h g =
-        let e : at ≡ values_at = omega arith in
-        let l : length (statuses mark_bits w) ≤ mark_bits = rw (statuses-length mark_bits w) (omega arith) in
-        sym (inv ∙ rw (e, drop_of_length-le (statuses mark_bits w) l) (and-true ok))
+-- the word of interval n, and those behind it
+pub clear : (w : Words) (n : ℕ) → n < mark_bits → length w ≡ width → ((i : ℕ) → get_or w i 0 < 2 ^ word_bits)
+    → (eqb (get_or w (mark_word n) 0 / 2 ^ (n % word_bits)) 0 && every is_zero (take (values_at - (mark_word n + 1)) (drop (mark_word n + 1) w))) ≡ none_from n w
+clear w n h wide fits =
+    rw (← none_words w (mark_word n + 1) (values_at - (mark_word n + 1)) (omega arith) (omega arith) wide fits) (sym (clear_first w n h (fits (mark_word n))))

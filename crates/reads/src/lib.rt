@@ -26,10 +26,11 @@ pub fn holds_none(words: &[u32]) -> bool
 }
 
 // Whether a stamp is later than another: equal ones are not.
+#[tactic(auto, unfolding(crate::specs::Load::is_later))]
 pub fn is_later(new: Stamp, old: Stamp) -> bool
     ensures { result ≡ is_later new old }
 {
-    (old.date < new.date) | ((old.date == new.date) & (old.clock < new.clock))
+    new > old
 }
 
 fn replaces(new: &[u32], old: &[u32]) -> bool

@@ -9,6 +9,7 @@ use calendar::{is_clock, is_date};
 use cell::mark::WORD_BITS;
 use cell::{Cell, stamp_in};
 use headers::time::Stamp;
+use text::bytes::every;
 
 // The most watt hours that a row can give.
 const MAX_VALUE: u32 = 999999999;
@@ -22,25 +23,13 @@ fn is_real_stamp(stamp: Stamp) -> bool
 fn all_values(values: &[u32]) -> bool
     ensures { result ≡ every is_value values.now }
 {
-    let mut ok = true;
-    let mut i: usize = 0;
-    while i < values.len() {
-        ok = ok & (values[i] <= MAX_VALUE);
-        i += 1;
-    }
-    ok
+    every(values, |wh| wh <= MAX_VALUE)
 }
 
-fn all_zero(values: &[u32]) -> bool
-    ensures { result ≡ every is_zero values.now }
+fn all_zero(words: &[u32]) -> bool
+    ensures { result ≡ every is_zero words.now }
 {
-    let mut ok = true;
-    let mut i: usize = 0;
-    while i < values.len() {
-        ok = ok & (values[i] == 0);
-        i += 1;
-    }
-    ok
+    every(words, |word| word == 0)
 }
 
 // Whether no interval from the n-th on is marked: neither in the n-th's word nor in those behind it.
@@ -49,13 +38,8 @@ fn is_clear(words: &[u32], n: usize) -> bool
     ensures { result ≡ no_mark (drop n (statuses mark_bits words.now)) }
 {
     let first = Cell::MARKS + n / WORD_BITS;
-    let mut ok = words[first] >> (n % WORD_BITS) == 0;
-    let mut at = first + 1;
-    while at < Cell::VALUES {
-        ok = ok & (words[at] == 0);
-        at += 1;
-    }
-    ok
+    let behind = &words[first + 1..Cell::VALUES];
+    (words[first] >> (n % WORD_BITS) == 0) & all_zero(behind)
 }
 
 // Whether a cell is sound for a day of n intervals.
@@ -77,10 +61,8 @@ pub fn count_marks(words: &[u32]) -> u32
     ensures { result ≡ estimated mark_bits words.now }
 {
     let mut n: u32 = 0;
-    let mut part = Cell::MARKS;
-    while part < Cell::VALUES {
-        n += u32::count_ones(words[part]);
-        part += 1;
+    for word in &words[Cell::MARKS..Cell::VALUES] {
+        n += word.count_ones();
     }
     n
 }

@@ -1,12 +1,8 @@
--- What the loops of `reads::sound::count_marks` keep, and why they end.
-use Prim.Native.Nat.{◌≤◌, ◌-◌}
-use mathlib.Core.Path.{◌≡◌}
-use Rattle.cell.specs.Layout.{marks_at, values_at}
-use Rattle.reads.proofs.Count.{count_to}
+-- What the loop of `reads::sound::count_marks` keeps.
+use Rattle.std.proofs.Common.{◌≡◌, ◌*◌}
+use Rattle.cell.specs.Layout.{word_bits}
+use Rattle.cell.specs.Marks.{estimated}
 use Rattle.reads.proofs.sound.count_marks.Given as goal
 
-abbrev pub invariant-loop-part : goal.invariant-loop-part
-invariant-loop-part l = (marks_at ≤ l.part) × (l.part ≤ values_at) × (l.n ≡ count_to l.part l.words)
-
-abbrev pub decreases-loop-part : goal.decreases-loop-part
-decreases-loop-part l = values_at - l.part
+abbrev pub invariant-loop-word : goal.invariant-loop-word
+invariant-loop-word l = l.n ≡ estimated (l.word-index * word_bits) l.words
