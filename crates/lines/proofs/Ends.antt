@@ -2,16 +2,18 @@
 -- Assumes nothing.
 use mathlib.Core.Path.{◌≡◌, sym, ap, ◌∙◌}
 use mathlib.Core.List.{[], ◌∷◌, ◌++◌}
-use mathlib.Core.Bool.{Bool, true, ◌&&◌}
+use mathlib.Core.Bool.{Bool, true, false, ◌&&◌}
 use Prim.Native.Nat.{ℕ, suc, ◌+◌, ◌-◌, ◌<◌, ◌≤◌}
 use native.Mathlib.Omega.{arith}
 use lib.Dec.{eqb}
-use lib.ListN.{length, drop, get_or}
-use lib.Seq.{take-add, drop-drop, drop-cons}
+use lib.ListN.{length, take, drop, get_or, length-append, length-drop}
+use lib.Seq.{take-add, drop-drop, drop-cons, take-append_seam, drop-append_seam, length-take-le}
+use Rattle.std.proofs.lemmas.List.{get_or-take, get_or-drop}
 use borrow.Author.Tests.{eqb-true, ne_eqb}
 use Rattle.text.specs.Byte.{Bytes, every}
+use Rattle.text.proofs.Left.{left-whole}
 use Rattle.text.proofs.Truth.{and_left, and_right}
-use Rattle.text.proofs.Class.{every_append}
+use Rattle.text.proofs.Class.{every_append, every_from}
 use Rattle.lines.specs.Line.{LF, CR, not_lf, drop_cr}
 use Rattle.lines.specs.End.{between, NoneTo, LineEnd, LineAt, EmptyAt}
 
@@ -39,22 +41,44 @@ module _ (piece : Bytes) (at e : ℕ) (n : NoneTo piece at e) where
       }
 
   -- a stride without one
-  pub stride_none : (end : ℕ) (r : Bool) → e ≤ end → end ≤ length piece → r ≡ every not_lf (between e end piece) → r ≡ true → NoneTo piece at end
-  stride_none end r h g is t = none_more end h g (sym is ∙ t)
+  module _ (part rest : Bytes) (size : ℕ) (left : drop e piece ≡ part ++ rest) (whole : length part ≡ size) where
+    stride-part : between e (e + size) piece ≡ part
+    stride-part =
+        let s : e + size - e ≡ length part = omega arith in
+        rw (s, left) (take-append_seam part rest)
 
-  -- one other byte
-  pub none-next : e < length piece → (get_or piece e 0 ≡ LF → ⊥) → NoneTo piece at (e + 1)
-  unfolding every
-  none-next h other =
-      let n1 : e + 1 - e ≡ 1 = omega arith in
-      none_more (e + 1) (omega arith) (omega arith)
-      (rw (n1, drop-cons piece e 0 h, ne_eqb (get_or piece e 0) LF other))
+    pub stride_left : drop (e + size) piece ≡ rest
+    stride_left =
+        let s : e + size ≡ e + length part = omega arith in
+        rw s (sym (drop-drop (length part) e piece) ∙ rw left (drop-append_seam part rest))
 
-  pub ends-here : get_or piece e 0 ≡ LF → LineEnd piece at e
-  ends-here found = record { none = n; ends = λ h. found }
+    pub stride_none : every not_lf part ≡ true → NoneTo piece at (e + size)
+    stride_none clean = none_more (e + size) (omega arith) (omega (arith, ap length left, length-append {A = ℕ}, length-drop {A = ℕ}, n.within)) (rw stride-part clean)
 
-  pub ends-behind : length piece ≤ e → LineEnd piece at e
-  ends-behind h = record { none = n; ends = λ g. absurd (omega (arith, g, h)) }
+  -- what is left of the piece has its first LF at a place, or none
+  module _ (rest : Bytes) (left : rest ≡ between e (length piece) piece) where
+    left_drop : rest ≡ drop e piece
+    left_drop = left ∙ left-whole piece e
+
+    left_size : e + length rest ≡ length piece
+    left_size = omega (arith, ap length left_drop, length-drop e piece, n.within)
+
+    none_among : (i : ℕ) → i ≤ length rest → ((k : ℕ) → k < i → eqb (get_or rest k 0) LF ≡ false) → NoneTo piece at (e + i)
+    none_among i h other =
+        let s : e + i - e ≡ i = omega arith in
+        let l : length (take i rest) ≡ i = length-take-le i rest h in
+        none_more (e + i) (omega arith) (omega (arith, left_size))
+        (rw (s, ← left_drop)
+        (every_from not_lf (take i rest) (λ k b.
+        let m : k < i = omega (arith, l, b) in
+        rw (get_or-take i rest k 0 m, other k m))))
+
+    pub lf_at : (i : ℕ) → i < length rest → eqb (get_or rest i 0) LF ≡ true → ((k : ℕ) → k < i → eqb (get_or rest k 0) LF ≡ false) → LineEnd piece at (e + i)
+    lf_at i h found other =
+        record { none = none_among i (omega arith) other; ends = λ _. sym (get_or-drop e piece i 0) ∙ rw left_drop at (eqb-true _ _ found) }
+
+    pub no_lf : ((k : ℕ) → k < length rest → eqb (get_or rest k 0) LF ≡ false) → LineEnd piece at (length piece)
+    no_lf other = record { none = rw left_size at (none_among (length rest) (omega arith) other); ends = λ g. absurd (omega (arith, g)) }
 
 -- a line with its LF
 pub with_lf : (piece : Bytes) (at end : ℕ) → LineEnd piece at end → end < length piece → between at (suc end) piece ≡ between at end piece ++ (LF ∷ [])

@@ -3,9 +3,10 @@
 use mathlib.Core.Path.{◌≡◌, refl, ap, sym, ◌∙◌}
 use mathlib.Core.List.{[], ◌∷◌}
 use mathlib.Core.Bool.{Bool, true, false, cond}
-use Prim.Native.Nat.{ℕ, suc, ◌+◌, ◌-◌, ◌≤◌}
+use Prim.Native.Nat.{ℕ, suc, ◌+◌, ◌-◌, ◌<◌, ◌≤◌}
 use native.Mathlib.Omega.{arith}
-use lib.Dec.{eqb, leb, ltb}
+use Rattle.std.specs.Int.{from_bool}
+use lib.Dec.{eqb, ltb}
 use lib.ListN.{length, take, get_or}
 use lib.Seq.{take_all}
 use borrow.Author.Tests.{leb-true, leb-false, lt-ltb, le-ltb, ltb-false}
@@ -15,21 +16,11 @@ use Rattle.lines.specs.Line.{CR, ends_with_cr, drop_cr, ended_line, last_line, l
 use Rattle.lines.specs.Answer.{line_of}
 use Rattle.lines.specs.declared.line.Kind.TheVariants.{Empty, Opener, Detail, Other}
 
-pub ends-none : (s : Bytes) → length s ≡ 0 → false ≡ ends_with_cr s
-unfolding ends_with_cr
-ends-none [] h = refl
-ends-none (b ∷ s) h = absurd (omega (arith, h))
-
+-- no byte is last, a CR is, another byte is
 ends_at : (b : ℕ) (s : Bytes) → eqb (get_or (b ∷ s) (length s) 0) CR ≡ ends_with_cr (b ∷ s)
 unfolding ends_with_cr
 ends_at b [] = refl
 ends_at b (c ∷ s) = ends_at c s
-
-pub ends_last : (s : Bytes) → (length s ≡ 0 → ⊥) → eqb (get_or s (length s - 1) 0) CR ≡ ends_with_cr s
-ends_last [] h = absurd (h refl)
-ends_last (b ∷ s) h =
-    let e : suc (length s) - 1 ≡ length s = omega arith in
-    rw e (ends_at b s)
 
 drop_at : (b : ℕ) (s : Bytes) → drop_cr (b ∷ s) ≡ cond (ends_with_cr (b ∷ s)) (take (length s) (b ∷ s)) (b ∷ s)
 unfolding drop_cr ends_with_cr
@@ -40,46 +31,33 @@ drop_at b (c ∷ s) = ap (λ r. b ∷ r) (drop_at c s) ∙ inside (ends_with_cr 
     inside true x p q = refl
     inside false x p q = refl
 
--- the last byte is a CR, or it is not
-module _ (s : Bytes) (r : Bool) (e : r ≡ ends_with_cr s) where
-  pub drop-some : r ≡ true → 1 ≤ length s
-  drop-some h = go s (sym e ∙ h)
-    where
-      go : (t : Bytes) → ends_with_cr t ≡ true → 1 ≤ length t
-      go [] g = absurd (apart (ends-none [] refl ∙ g))
-      go (b ∷ t) g = omega arith
+pub ends_none : (s : Bytes) → length s < 1 → false ≡ ends_with_cr s
+unfolding ends_with_cr
+ends_none [] h = refl
+ends_none (b ∷ s) h = absurd (omega (arith, h))
 
-  pub drop_yes : r ≡ true → take (length s - 1 - 0) s ≡ drop_cr s
-  drop_yes h = go s (sym e ∙ h)
-    where
-      go : (t : Bytes) → ends_with_cr t ≡ true → take (length t - 1 - 0) t ≡ drop_cr t
-      go [] g = absurd (apart (ends-none [] refl ∙ g))
-      go (b ∷ t) g =
-          let n : suc (length t) - 1 - 0 ≡ length t = omega arith in
-          rw (n, drop_at b t, g)
+pub ends_last : (s : Bytes) → 1 ≤ length s → ends_with_cr s ≡ eqb (get_or s (length s - 1) 0) CR
+ends_last [] h = absurd (omega (arith, h))
+ends_last (b ∷ s) h =
+    let e : suc (length s) - 1 ≡ length s = omega arith in
+    rw e (sym (ends_at b s))
 
-  pub drop_no : r ≡ false → take (length s - 0) s ≡ drop_cr s
-  unfolding drop_cr
-  drop_no h = take_all (length s - 0) s (omega arith) ∙ go s (sym e ∙ h)
-    where
-      go : (t : Bytes) → ends_with_cr t ≡ false → t ≡ drop_cr t
-      go [] g = refl
-      go (b ∷ t) g = sym (rw (drop_at b t, g))
+pub drop_none : (s : Bytes) → length s < 1 → s ≡ drop_cr s
+unfolding drop_cr
+drop_none [] h = refl
+drop_none (b ∷ s) h = absurd (omega (arith, h))
+
+pub drop_last : (s : Bytes) → 1 ≤ length s → drop_cr s ≡ cond (eqb (get_or s (length s - 1) 0) CR) (take (length s - 1) s) s
+drop_last [] h = absurd (omega (arith, h))
+drop_last (b ∷ s) h =
+    let e : suc (length s) - 1 ≡ length s = omega arith in
+    rw (← ends_last (b ∷ s) h, e) (drop_at b s)
 
 -- the CR counts
-pub long-cr : (s : Bytes) (cr : Bool) → cr ≡ true → leb line_limit (length s) ≡ is_long (line_of s cr)
+pub long_counted : (s : Bytes) (cr : Bool) → ltb line_limit (length s + from_bool cr) ≡ is_long (line_of s cr)
 unfolding is_long
-long-cr s cr h = rw h (go (leb line_limit (length s)) refl)
-  where
-    go : (t : Bool) → leb line_limit (length s) ≡ t → t ≡ ltb line_limit (length s + 1)
-    go true e = sym (lt-ltb line_limit (length s + 1) (omega (arith, leb-true line_limit (length s) e)))
-    go false e = sym (le-ltb line_limit (length s + 1) (omega (arith, leb-false line_limit (length s) e)))
-
-pub long-none : (s : Bytes) (cr : Bool) → cr ≡ false → ltb line_limit (length s) ≡ is_long (line_of s cr)
-unfolding is_long
-long-none s cr h =
-    let z : length s + 0 ≡ length s = omega arith in
-    rw (h, z)
+long_counted s true = refl
+long_counted s false = refl
 
 -- a line that an LF ends, or finish: long by the bytes before that, CR included
 dropped-size : (s : Bytes) → length (drop_cr s) + cr_size (ends_with_cr s) ≡ length s
@@ -97,8 +75,10 @@ unfolding is_long ended_line
 ended-long s = rw (dropped-size s)
 
 pub last-long : (s : Bytes) → is_long (last_line s) ≡ ltb line_limit (length s)
-unfolding last_line
-last-long s = sym (long-none s false refl)
+unfolding is_long last_line
+last-long s =
+    let z : length s + 0 ≡ length s = omega arith in
+    rw z
 
 pub short-line : (s : Bytes) (cr r : Bool) → r ≡ is_long (line_of s cr) → r ≡ false → length s ≤ line_limit
 unfolding is_long

@@ -5,21 +5,16 @@ ghost use Rattle.lines.specs.Line.{not_lf};
 ghost use Rattle.lines.specs.End.{NoneTo, LineEnd, EmptyAt};
 
 use crate::line::{CR, LF};
+use text::bytes::every;
 
 // As many bytes as one test looks at.
 const STRIDE: usize = 16;
 
-// Whether no byte is an LF. It looks at all of them, so that many are looked at at once.
+// Whether no byte is an LF.
 fn is_clean(s: &[u8]) -> bool
     ensures { result ≡ every not_lf s.now }
 {
-    let mut ok = true;
-    let mut i: usize = 0;
-    while i < s.len() {
-        ok = ok & (s[i] != LF);
-        i += 1;
-    }
-    ok
+    every(s, |b| b != LF)
 }
 
 // Over whole strides without an LF.
@@ -28,12 +23,11 @@ fn stride(piece: &[u8], at: usize) -> usize
     ensures { NoneTo piece.now at result }
 {
     let mut e = at;
-    while STRIDE <= piece.len() - e {
-        let end = e + STRIDE;
-        if !is_clean(&piece[e..end]) {
+    for part in piece[at..].chunks_exact(STRIDE) {
+        if !is_clean(part) {
             return e;
         }
-        e = end;
+        e += STRIDE;
     }
     e
 }
@@ -43,14 +37,11 @@ pub fn line_end(piece: &[u8], at: usize) -> usize
     requires { at ≤ length piece.now }
     ensures { LineEnd piece.now at result }
 {
-    let mut e = stride(piece, at);
-    while e < piece.len() {
-        if piece[e] == LF {
-            return e;
-        }
-        e += 1;
+    let e = stride(piece, at);
+    match piece[e..].iter().position(|b| *b == LF) {
+        Some(n) => e + n,
+        None => piece.len(),
     }
-    e
 }
 
 // How many bytes an empty line at a place has, with its LF: an LF, or a CR and an LF. 0, if there is another line, or what the piece has is not enough to

@@ -1,31 +1,17 @@
 // The bytes of a line whose LF has not come: at most 201 of them, which tell the line's kind, and that it is long.
-ghost use Rattle.std.specs.Prelude.{◌≡◌, ◌++◌, ◌≤◌, min, length, take};
+ghost use Rattle.std.specs.Prelude.{◌≡◌, ◌++◌, ◌≤◌, length, take};
 ghost use Rattle.lines.specs.Line.{kept_limit};
 
 use crate::line::LINE_LIMIT;
 
 pub const KEPT_LIMIT: usize = LINE_LIMIT + 1;
 
-// The lesser of two numbers.
-fn least(a: usize, b: usize) -> usize
-    ensures { result ≡ min a b }
-{
-    if a < b {
-        return a;
-    }
-    b
-}
-
 // Puts a part of the line behind the bytes that are held, as far as there is room; how many are held then.
 pub fn keep(kept: &mut [u8], held: usize, part: &[u8]) -> usize
     requires { (length kept.old ≡ kept_limit) × (held ≤ kept_limit) }
     ensures { (take result kept.new ≡ take kept_limit (take held kept.old ++ part.now)) × (result ≤ kept_limit) × (length kept.new ≡ kept_limit) }
 {
-    let n = least(part.len(), KEPT_LIMIT - held);
-    let mut i: usize = 0;
-    while i < n {
-        kept[held + i] = part[i];
-        i += 1;
-    }
-    held + n
+    let end = held + (KEPT_LIMIT - held).min(part.len());
+    kept[held..end].copy_from_slice(&part[..end - held]);
+    end
 }

@@ -12,7 +12,7 @@ pub const CR: u8 = 13;
 // The most bytes of a line that is not long, its CR included.
 pub const LINE_LIMIT: usize = 200;
 
-#[derive(Clone, Copy)]
+#[derive(Clone, Copy, Debug, PartialEq, Eq)]
 pub enum Kind {
     Empty,
     Opener,
@@ -24,45 +24,36 @@ pub enum Kind {
 pub fn ends_with_cr(raw: &[u8]) -> bool
     ensures { result ≡ ends_with_cr raw.now }
 {
-    let n = raw.len();
-    if n == 0 {
-        return false;
-    }
-    raw[n - 1] == CR
+    matches!(raw, [.., CR])
 }
 
 // The bytes before an LF without that one CR.
 pub fn without_cr(raw: &[u8]) -> &[u8]
     ensures { result.now ≡ drop_cr raw.now }
 {
-    if ends_with_cr(raw) {
-        let n = raw.len() - 1;
-        return &raw[0..n];
+    match raw {
+        [body @ .., CR] => body,
+        _ => raw,
     }
-    &raw[0..]
 }
 
 // Whether a line is long: its bytes are counted with the CR that was dropped.
 pub fn is_long(line: &[u8], cr: bool) -> bool
     ensures { result ≡ is_long (line_of line.now cr) }
 {
-    if cr {
-        return LINE_LIMIT <= line.len();
-    }
-    LINE_LIMIT < line.len()
+    LINE_LIMIT < line.len() + usize::from(cr)
 }
 
 pub fn kind_of(line: &[u8]) -> Kind
     ensures { result ≡ kind_of line.now }
 {
-    if line.len() == 0 {
-        return Kind::Empty;
+    if line.is_empty() {
+        Kind::Empty
+    } else if begins(line, b"00000001") {
+        Kind::Opener
+    } else if begins(line, b"100000") {
+        Kind::Detail
+    } else {
+        Kind::Other
     }
-    if begins(line, b"00000001") {
-        return Kind::Opener;
-    }
-    if begins(line, b"100000") {
-        return Kind::Detail;
-    }
-    Kind::Other
 }

@@ -1,6 +1,6 @@
 -- Keeping the first 201 bytes of a line is keeping enough: they tell its kind, and that it is long.
 -- Assumes nothing.
-use mathlib.Core.Bool.{Bool, true, false, ◌&&◌}
+use mathlib.Core.Bool.{Bool, true, false}
 use mathlib.Core.List.{[], ◌∷◌, ◌++◌}
 use mathlib.Core.Logic.{◌⊎◌, inl, inr}
 use mathlib.Core.Path.{◌≡◌, refl, ap, sym, ◌∙◌}
@@ -23,11 +23,7 @@ use Rattle.plain.proofs.Lawful.{Lawful}
 -- as many bytes as tell the prefix
 starts_take : (n : ℕ) (p s : Bytes) → length p ≤ n → starts_with p s ≡ starts_with p (take n s)
 unfolding starts_with
-starts_take n [] s h = refl
-starts_take zero (c ∷ p) [] h = refl
-starts_take (suc n) (c ∷ p) [] h = refl
-starts_take zero (c ∷ p) (b ∷ s) h = absurd (not-suc-le-zero h)
-starts_take (suc n) (c ∷ p) (b ∷ s) h = ap (λ r. eqb b c && r) (starts_take n p s (le_of_suc-le-suc h))
+starts_take n p s h = rw (take-take (length p) n s h)
 
 take-drop_cr : (n : ℕ) (k : Bytes) → n < length k → take n (drop_cr k) ≡ take n k
 unfolding drop_cr

@@ -7,8 +7,8 @@ use mathlib.Core.Path.{◌≡◌, refl, sym, ◌∙◌}
 use Prim.Native.Nat.{ℕ, suc}
 use native.Mathlib.Omega.{arith}
 use lib.Dec.{eqb}
-use borrow.Author.Tests.{eqb-true}
-use Rattle.text.proofs.Truth.{and_left, and_right}
+use lib.ListN.{length, drop}
+use Rattle.text.proofs.Equal.{starts_whole}
 use Rattle.text.specs.Byte.{Bytes, starts_with}
 use Rattle.lines.specs.Line.{LF, Line, ended_line, last_line, opener_bytes, drop_cr, kind_of}
 use Rattle.lines.specs.declared.line.Kind.{Kind}
@@ -21,13 +21,7 @@ use Rattle.plain.proofs.Pieces.{file-cons, file-nil}
 
 -- what begins with p is p and a rest
 pub starts_split : (p s : Bytes) → starts_with p s ≡ true → (r : Bytes) × (s ≡ p ++ r)
-unfolding starts_with
-starts_split [] s h = (s, refl)
-starts_split (b ∷ p) [] h = absurd (let z : ◌≡◌ {A = ℕ} 0 1 = cc in omega arith)
-starts_split (b ∷ p) (c ∷ s) h =
-    let t : (r : Bytes) × (s ≡ p ++ r) = starts_split p s (and_right (eqb c b) (starts_with p s) h) in
-    let e : s ≡ p ++ t.0 = t.1 in
-    (t.0, cc (eqb-true c b (and_left (eqb c b) (starts_with p s) h)))
+starts_split p s h = (drop (length p) s, starts_whole p s h)
 
 -- an opener's first bytes make it one, however it ends
 opener_ended : (k : Bytes) → kind_of (ended_line (opener_bytes ++ k)).body ≡ Opener

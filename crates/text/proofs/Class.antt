@@ -38,6 +38,11 @@ every-at class [] i h l = absurd (not-suc-le-zero l)
 every-at class (b ∷ s) zero h l = and_left (class b) (every class s) h
 every-at class (b ∷ s) (suc i) h l = every-at class s i (and_right (class b) (every class s) h) (le_of_suc-le-suc l)
 
+pub every_from : (class : ℕ → Bool) (s : Bytes) → ((i : ℕ) → i < length s → class (get_or s i 0) ≡ true) → every class s ≡ true
+unfolding every
+every_from class [] h = refl
+every_from class (b ∷ s) h = and_both (class b) (every class s) (h 0 (omega arith)) (every_from class s (λ i l. h (suc i) (omega arith)))
+
 pub digit_at : (s : Bytes) (i : ℕ) → every is_digit s ≡ true → i < length s → is_digit (get_or s i 0) ≡ true
 digit_at s i h l = every-at is_digit s i h l
 

@@ -1,11 +1,11 @@
--- What the loops of `lines::end::stride` keep, and why they end.
-use Prim.Native.Nat.{◌-◌}
-use lib.ListN.{length}
+-- What the loop of `lines::end::stride` keeps.
+use Rattle.std.proofs.Common.{◌≡◌, drop}
 use Rattle.lines.specs.End.{NoneTo}
 use Rattle.lines.proofs.end.stride.Given as goal
 
-abbrev pub invariant-loop-e : goal.invariant-loop-e
-invariant-loop-e l = NoneTo l.piece l.at l.e
-
-abbrev pub decreases-loop-e : goal.decreases-loop-e
-decreases-loop-e l = length l.piece - l.e
+abbrev pub invariant-loop-part : goal.invariant-loop-part
+invariant-loop-part l = record {
+  size : l.part-iterator.size ≡ 16;
+  left : drop l.e l.piece ≡ l.part-iterator.rest.now;
+  none : NoneTo l.piece l.at l.e;
+}

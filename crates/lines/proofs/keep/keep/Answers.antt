@@ -1,15 +1,17 @@
 -- `lines::keep::keep` meets its contract.
 -- Assumes nothing.
-use native.Mathlib.Omega.{arith}
-use borrow.Author.Rules.{rules}
-use Rattle.lines.proofs.Keeping.{keep_begin, keep_again, keep_end}
+use Rattle.std.proofs.Common.{rules, arith, ap, ◌∙◌, ◌++◌, ◌≡◌, ◌+◌, ◌-◌, take}
+use Rattle.std.proofs.lemmas.Slice.{take-put_mid}
+use Rattle.lines.proofs.Keeping.{kept_part}
 use Rattle.lines.proofs.keep.keep.Goals as goal
 
-pub loop-i-init : goal.loop-i-init
-loop-i-init c = (omega arith, search rules, keep_begin c.args.kept.now c.args.part.now (c.args.held))
-
-pub loop-i-preserved : goal.loop-i-preserved
-loop-i-preserved c = (omega arith, search rules, keep_again c.args.kept.now c.loop-i.kept c.args.part.now (c.args.held) (c.loop-i.i) (c.loop-i.invariant.1) (c.loop-i.invariant.2) (omega arith) (omega arith))
-
 pub returns : goal.returns
-returns c = (keep_end _ _ _ (c.args.held) (c.least-n.result) (c.loop-i.i) (c.requires.0) (c.requires.1) (c.least-n.ensures) (c.loop-i.invariant.0) (omega arith) (c.loop-i.invariant.2), omega arith, search rules)
+returns c =
+    let kept = c.args.kept.now in
+    let n : c.args.held + c.min.result - c.args.held ≡ c.min.result = omega arith in (
+      take-put_mid c.args.held _ kept _ _ (omega arith) (omega arith)
+          ∙ ap (λ r. take c.args.held kept ++ r) (c.copy_from_slice.ensures.after ∙ ap (λ i. take i c.args.part.now) (n ∙ c.min.ensures))
+          ∙ kept_part kept c.args.part.now c.args.held c.requires.0 c.requires.1,
+      search rules,
+      search rules,
+    )

@@ -1,11 +1,8 @@
 -- `lines::line::is_long` meets its contract.
 -- Assumes nothing.
-use borrow.Author.Rules.{rules}
-use Rattle.lines.proofs.Lines.{long-cr, long-none}
+use Rattle.std.proofs.Common.{rules}
+use Rattle.lines.proofs.Lines.{long_counted}
 use Rattle.lines.proofs.line.is_long.Goals as goal
 
-pub returns-then-cr : goal.returns-then-cr
-returns-then-cr c = search (long-cr, rules)
-
 pub returns : goal.returns
-returns c = search (long-none, rules)
+returns c = rw c.from.ensures (long_counted c.args.line.now c.args.cr)

@@ -1,14 +1,14 @@
 -- `lines::line::without_cr` meets its contract.
 -- Assumes nothing.
-use borrow.Author.Rules.{rules}
-use Rattle.lines.proofs.Lines.{drop-some, drop_yes, drop_no}
+use Rattle.std.proofs.Common.{rules}
+use Rattle.lines.proofs.Lines.{drop_none, drop_last}
 use Rattle.lines.proofs.line.without_cr.Goals as goal
 
-pub overflow_sub-n : goal.overflow_sub-n
-overflow_sub-n c = search (drop-some, rules)
+pub returns-in-13 : goal.returns-in-13
+returns-in-13 c = rw (drop_last c.args.raw.now c.in-13.len_at_least) (search rules)
 
-pub returns-then-ends_with_cr : goal.returns-then-ends_with_cr
-returns-then-ends_with_cr c = search (drop_yes, rules)
+pub returns-in_default : goal.returns-in_default
+returns-in_default c = search (drop_none, rules)
 
-pub returns : goal.returns
-returns c = search (drop_no, rules)
+pub returns-in_default-2 : goal.returns-in_default-2
+returns-in_default-2 c = rw (drop_last c.args.raw.now c.in_default.len_at_least) (search rules)
