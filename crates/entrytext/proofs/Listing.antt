@@ -1,16 +1,12 @@
 -- Lines put one behind the other.
 -- Assumes nothing.
-use mathlib.Core.Path.{◌≡◌, refl, sym, ◌∙◌}
+use mathlib.Core.Path.{◌≡◌, refl}
 use mathlib.Core.List.{List, [], ◌∷◌, ◌++◌}
-use mathlib.Core.Bool.{◌&&◌, true, false}
 use Prim.Native.Nat.{ℕ, zero, suc, ◌+◌, ◌-◌, ◌<◌, ◌≤◌}
 use native.Mathlib.Numerals.{add-one}
 use native.Mathlib.Omega.{arith}
-use lib.Dec.{ltb, leb}
 use lib.ListN.{length, length-append}
-use borrow.Author.Tests.{lt-ltb, le-leb, ltb-true, leb-true}
 use Rattle.text.specs.Byte.{Bytes}
-use Rattle.text.proofs.Truth.{apart, and_left, and_right}
 use Rattle.lines.specs.Line.{LF}
 use Rattle.digits.specs.Put.{Room, Put, put_at}
 use Rattle.digits.specs.Decimal.{decimal}
@@ -69,27 +65,26 @@ module _ (e : Entry) where
 
 -- ---- lines
 
-pub goes_on_lem : (k few most room : ℕ) → (ltb k few && leb most room) ≡ true → (k < few) × (most ≤ room)
-goes_on_lem k few most room h = (ltb-true k few (and_left (ltb k few) (leb most room) h), leb-true most room (and_right (ltb k few) (leb most room) h))
-
 module _ (w : List ℕ) (from : ℕ) (a b : Bytes) where
-  pub no_lines : Put a 0 (lines_from w from 0) a 0
+  pub no_lines : (k : ℕ) → k ≡ 0 → Put a 0 (lines_from w from k) a 0
   unfolding lines_from put_at
-  no_lines = record { behind = refl; bytes = refl }
+  no_lines k e = rw e (record { behind = refl; bytes = refl })
 
-  pub next-line : (c : Bytes) (k end r : ℕ) (e : Entry) → e ≡ entry_at w (from + k) → Put a 0 (lines_from w from k) b end → Put b end (line_of e) c r
-      → Put a 0 (lines_from w from (k + 1)) c r
+  pub next-line : (c : Bytes) (k n end r : ℕ) (e : Entry) → n ≡ from + k → e ≡ entry_at w n → Put a 0 (lines_from w from k) b end → Put b end (line_of e) c r
+      → (m : ℕ) → m ≡ k + 1 → Put a 0 (lines_from w from m) c r
   unfolding lines_from
-  next-line c k end r e is p q = rw (add-one, ← is) (put_both (omega arith) p q)
+  next-line c k n end r e at is p q m next = rw (next, add-one, ← at, ← is) (put_both (omega arith) p q)
 
-  -- as many as there is room for: one at least, if there is one
-  pub lists : (count k end : ℕ) → longest ≤ length b → from ≤ count → k ≤ count - from → end ≤ length b → Put a 0 (lines_from w from k) b end
-      → (ltb k (count - from) && leb longest (length b - end)) ≡ false → Lists w from count a b (record { entries = k; end = end })
-  unfolding lines_from
-  lists count k end h few within fits p stop = record { put = p; within = omega arith; some = λ m. first k p stop m; fits = fits }
-    where
-      first : (k : ℕ) → Put a 0 (lines_from w from k) b end → (ltb k (count - from) && leb longest (length b - end)) ≡ false → from < count → 0 < k
-      first zero p stop m =
-          absurd
-          (apart (sym stop ∙ rw (lt-ltb 0 (count - from) (omega arith), le-leb longest (length b - end) (omega (arith, p.behind)))))
-      first (suc k) p stop m = omega arith
+  module _ (count k end : ℕ) (h : longest ≤ length b) (within : from + k ≤ count) (fits : end ≤ length b) (p : Put a 0 (lines_from w from k) b end) where
+    -- all that were asked for
+    pub lists_all : k ≡ count - from → Lists w from count a b (record { entries = k; end = end })
+    lists_all e = record { put = p; within = within; some = λ m. omega arith; fits = fits }
+
+    -- as many as there is room for: one at least
+    pub lists_some : length b - end < longest → Lists w from count a b (record { entries = k; end = end })
+    unfolding lines_from
+    lists_some full = record { put = p; within = within; some = λ m. first k p; fits = fits }
+      where
+        first : (k : ℕ) → Put a 0 (lines_from w from k) b end → 0 < k
+        first zero p = absurd (omega (arith, p.behind))
+        first (suc k) p = omega arith

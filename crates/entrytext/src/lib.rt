@@ -21,7 +21,7 @@ const WIDEST: usize = MOST_DIGITS + 1;
 pub const LONGEST: usize = PER_ENTRY * WIDEST;
 
 // How many entries were put, and the place behind them.
-#[derive(Clone, Copy)]
+#[derive(Clone, Copy, Debug, PartialEq, Eq)]
 pub struct Listed {
     pub entries: usize,
     pub end: usize,
@@ -53,12 +53,18 @@ pub fn put_entries(out: &mut [u8], report: &[u32], from: usize, count: usize) ->
     requires { (longest ≤ length out.old) × (from ≤ count) × (count * per_entry ≤ length report.now) }
     ensures { Lists report.now from count out.old out.new result }
 {
-    let mut k: usize = 0;
-    let mut end: usize = 0;
-    while (k < count - from) & (LONGEST <= out.len() - end) {
-        let n = from + k;
+    let mut end = 0;
+    for n in from..count {
+        if out.len() - end < LONGEST {
+            return Listed {
+                entries: n - from,
+                end,
+            };
+        }
         end = put_line(out, end, entry_at(report, n));
-        k += 1;
     }
-    Listed { entries: k, end }
+    Listed {
+        entries: count - from,
+        end,
+    }
 }

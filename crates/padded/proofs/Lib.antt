@@ -4,3 +4,4 @@ pub mod Unpad
 pub mod Identifiers
 pub mod Bytewise
 pub mod Put
+pub mod Words

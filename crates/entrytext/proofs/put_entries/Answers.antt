@@ -1,41 +1,25 @@
 -- `entrytext::put_entries` meets its contract.
 -- Assumes nothing.
+use mathlib.Core.Path.{◌≡◌}
 use native.Mathlib.Omega.{arith}
-use borrow.Author.Rules.{rules}
-use mathlib.Core.Path.{refl}
-use Prim.Native.Nat.{◌-◌}
-use lib.ListN.{length}
-use Rattle.entrytext.specs.Listing.{longest}
-use Rattle.entrytext.proofs.Listing.{goes_on_lem, line-ends, no_lines, next-line, lists}
+use Rattle.entrytext.proofs.Listing.{line-ends, no_lines, next-line, lists_all, lists_some}
 use Rattle.entrytext.proofs.put_entries.Goals as goal
 
-pub loop-k-init : goal.loop-k-init
-loop-k-init c = (omega arith, omega arith, refl, no_lines _ _ _ c.args.out.now)
+pub loop-n-init : goal.loop-n-init
+loop-n-init c = record { fits = omega arith; put = no_lines _ _ _ c.args.out.now _ (omega arith) }
 
-pub overflow_add-n : goal.overflow_add-n
-overflow_add-n c = omega (arith, (goes_on_lem c.loop-k.k (c.args.count - c.args.from) longest (length c.loop-k.out - c.loop-k.end) c.loop-k-test.true).0)
+pub loop-n-preserved : goal.loop-n-preserved
+loop-n-preserved c = record {
+  fits = omega (arith, line-ends _ _ _ _ _ c.put_line-end.ensures c.if-out-end-lt-LONGEST.false c.loop-n.invariant.fits);
+  put =
+      next-line _ _ _ _ _ _ c.loop-n.n _ _ _ (omega arith) c.entry_at.ensures c.loop-n.invariant.put c.put_line-end.ensures _ (omega arith);
+}
 
-pub entry_at-requires : goal.entry_at-requires
-entry_at-requires c = omega (arith, (goes_on_lem c.loop-k.k (c.args.count - c.args.from) longest (length c.loop-k.out - c.loop-k.end) c.loop-k-test.true).0)
-
-pub put_line-end-requires : goal.put_line-end-requires
-put_line-end-requires c = omega (arith, (goes_on_lem c.loop-k.k (c.args.count - c.args.from) longest (length c.loop-k.out - c.loop-k.end) c.loop-k-test.true).1)
-
-pub loop-k-smaller : goal.loop-k-smaller
-loop-k-smaller c = omega (arith, (goes_on_lem c.loop-k.k (c.args.count - c.args.from) longest (length c.loop-k.out - c.loop-k.end) c.loop-k-test.true).0)
-
-pub loop-k-preserved : goal.loop-k-preserved
-loop-k-preserved c = (
-  omega (arith, (goes_on_lem c.loop-k.k (c.args.count - c.args.from) longest (length c.loop-k.out - c.loop-k.end) c.loop-k-test.true).0),
-  omega (
-    arith,
-    line-ends _ _ _ _ _ c.put_line-end.ensures (goes_on_lem c.loop-k.k (c.args.count - c.args.from) longest (length c.loop-k.out - c.loop-k.end) c.loop-k-test.true).1
-        c.loop-k.invariant.1,
-  ),
-  search rules,
-  next-line _ _ _ _ _ _ _ _ _ c.entry_at.ensures c.loop-k.invariant.3
-      c.put_line-end.ensures,
-)
+pub returns-then-out-end-lt-LONGEST : goal.returns-then-out-end-lt-LONGEST
+returns-then-out-end-lt-LONGEST c =
+    lists_some _ _ _ _ c.args.count _ _ (omega arith) (omega arith) c.loop-n.invariant.fits c.loop-n.invariant.put c.if-out-end-lt-LONGEST.true
 
 pub returns : goal.returns
-returns c = lists _ _ _ _ _ _ _ (omega arith) (search rules) c.loop-k.invariant.0 c.loop-k.invariant.1 c.loop-k.invariant.3 c.loop-k-test.false
+returns c =
+    let e : c.loop-n.n ≡ c.args.count = omega arith in
+    lists_all _ _ _ _ c.args.count _ _ (omega arith) (omega arith) c.loop-n.invariant.fits (rw e at c.loop-n.invariant.put) (omega arith)
