@@ -1,4 +1,3 @@
 -- Values and the detail row.
 pub mod Value
 pub mod Detail
-pub mod Answer

@@ -1,10 +1,10 @@
 // Values: kWh with at most three decimals, kept in watt hours.
 ghost use Rattle.std.specs.Prelude.{◌≡◌};
 ghost use Rattle.text.specs.Number.{Digits};
+ghost use Rattle.report.specs.Outcome.{says};
 ghost use Rattle.details.specs.Value.{whole_digits, part_digits, watt_hours, value_of};
-ghost use Rattle.details.specs.Answer.{value_says};
 
-use report::verdict::{NEGATIVE, NO_VALUE, TOO_FINE};
+use report::verdict::Verdict;
 use text::bytes::all_digits;
 use text::fields::{behind, front};
 use text::numbers::{digits, number_of};
@@ -12,13 +12,6 @@ use text::numbers::{digits, number_of};
 pub const WHOLE_DIGITS: usize = 6;
 
 pub const PART_DIGITS: usize = 3;
-
-// Watt hours, or the verdict.
-#[derive(Clone, Copy)]
-pub enum Value {
-    WattHours(u32),
-    Refused(u32),
-}
 
 // kWh times 1,000, from the digits before the point and those behind it.
 fn watt_hours(whole: &[u8], part: &[u8]) -> u32
@@ -40,38 +33,39 @@ fn watt_hours(whole: &[u8], part: &[u8]) -> u32
     k
 }
 
-pub fn read_value(f: &[u8]) -> Value
-    ensures { value_says result ≡ value_of f.now }
+// Watt hours.
+pub fn read_value(f: &[u8]) -> Result<u32, Verdict>
+    ensures { says result ≡ value_of f.now }
 {
     if f.len() == 0 {
-        return Value::Refused(NO_VALUE);
+        return Err(Verdict::NoValue);
     }
     if f[0] == b'-' {
-        return Value::Refused(NEGATIVE);
+        return Err(Verdict::Negative);
     }
     let w = digits(f);
     let whole = front(f, w);
     if w == f.len() {
         if WHOLE_DIGITS < w {
-            return Value::Refused(NO_VALUE);
+            return Err(Verdict::NoValue);
         }
-        return Value::WattHours(watt_hours(whole, behind(f, w)));
+        return Ok(watt_hours(whole, behind(f, w)));
     }
     if f[w] != b'.' {
-        return Value::Refused(NO_VALUE);
+        return Err(Verdict::NoValue);
     }
     let part = behind(f, w + 1);
     if !all_digits(part) {
-        return Value::Refused(NO_VALUE);
+        return Err(Verdict::NoValue);
     }
     if PART_DIGITS < part.len() {
-        return Value::Refused(TOO_FINE);
+        return Err(Verdict::TooFine);
     }
     if part.len() == 0 {
-        return Value::Refused(NO_VALUE);
+        return Err(Verdict::NoValue);
     }
     if WHOLE_DIGITS < w {
-        return Value::Refused(NO_VALUE);
+        return Err(Verdict::NoValue);
     }
-    Value::WattHours(watt_hours(whole, part))
+    Ok(watt_hours(whole, part))
 }

@@ -1,16 +1,26 @@
 -- `details::detail::read_interval` meets its contract.
 -- Assumes nothing.
-use Rattle.details.proofs.Quarters.{interval_value, interval_status, interval_actual, interval_estimated}
+use mathlib.Core.Path.{◌∙◌}
+use Rattle.report.proofs.Passing.{says-exit}
+use Rattle.details.specs.Detail.{interval_of, with_empty}
+use Rattle.details.proofs.Quarters.{interval-fields}
 use Rattle.details.proofs.detail.read_interval.Goals as goal
 
-pub returns-in-Refused : goal.returns-in-Refused
-returns-in-Refused c = interval_value _ _ _ _ _ _ c.field-value.ensures c.after-rest2.ensures c.field-status.ensures c.after.ensures c.field-empty.ensures _ c.read_value.ensures _ c.in-Refused.is
+pub returns-in_err-wh : goal.returns-in_err-wh
+unfolding interval_of
+returns-in_err-wh c = says-exit _ _ c.from_residual.ensures.1 ∙ rw (interval-fields _ _ _ _ _ _ c.field-value.ensures c.after-rest2.ensures c.field-status.ensures c.after.ensures c.field-empty.ensures, ← c.in_err-wh.ensures)
 
-pub returns-in-Unknown : goal.returns-in-Unknown
-returns-in-Unknown c = interval_status _ _ _ _ _ _ c.field-value.ensures c.after-rest2.ensures c.field-status.ensures c.after.ensures c.field-empty.ensures _ c.read_value.ensures _ c.in-WattHours.is _ c.read_status.ensures c.in-Unknown.is
+pub returns-in_err-estimated : goal.returns-in_err-estimated
+unfolding interval_of
+returns-in_err-estimated c =
+    says-exit _ _ c.from_residual-in_err-estimated.ensures.1 ∙ rw (interval-fields _ _ _ _ _ _ c.field-value.ensures c.after-rest2.ensures c.field-status.ensures c.after.ensures c.field-empty.ensures, ← c.in_ok-wh.ensures, ← c.in_err-estimated.ensures)
 
-pub returns-in-Actual : goal.returns-in-Actual
-returns-in-Actual c = interval_actual _ _ _ _ _ _ c.field-value.ensures c.after-rest2.ensures c.field-status.ensures c.after.ensures c.field-empty.ensures _ c.read_value.ensures _ c.in-WattHours.is _ c.read_status.ensures _ c.in-Actual.is c.with_empty.ensures
+pub returns-in_err-require : goal.returns-in_err-require
+unfolding interval_of with_empty
+returns-in_err-require c =
+    says-exit _ _ c.from_residual-in_err-require.ensures.1
+    ∙ rw (interval-fields _ _ _ _ _ _ c.field-value.ensures c.after-rest2.ensures c.field-status.ensures c.after.ensures c.field-empty.ensures, ← c.in_ok-wh.ensures, ← c.in_ok-estimated.ensures, ← c.is_empty.ensures, ← c.in_err-require.ensures)
 
-pub returns-in-Estimated : goal.returns-in-Estimated
-returns-in-Estimated c = interval_estimated _ _ _ _ _ _ c.field-value.ensures c.after-rest2.ensures c.field-status.ensures c.after.ensures c.field-empty.ensures _ c.read_value.ensures _ c.in-WattHours.is _ c.read_status.ensures _ c.in-Estimated.is c.with_empty-in-Estimated.ensures
+pub returns : goal.returns
+unfolding interval_of with_empty
+returns c = rw (interval-fields _ _ _ _ _ _ c.field-value.ensures c.after-rest2.ensures c.field-status.ensures c.after.ensures c.field-empty.ensures, ← c.in_ok-wh.ensures, ← c.in_ok-estimated.ensures, ← c.is_empty.ensures, ← c.in_ok-require.ensures)

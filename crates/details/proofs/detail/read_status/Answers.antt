@@ -1,17 +1,16 @@
 -- `details::detail::read_status` meets its contract.
 -- Assumes nothing.
-use borrow.Author.Rules.{rules}
-use Rattle.details.proofs.Quarters.{status_long, status_actual, status_estimated, status_other}
+use Rattle.details.specs.Detail.{status_of}
 use Rattle.details.proofs.detail.read_status.Goals as goal
 
-pub returns-then-f-ne1 : goal.returns-then-f-ne1
-returns-then-f-ne1 c = search (status_long, rules)
+pub returns-then-same : goal.returns-then-same
+unfolding status_of
+returns-then-same c = rw (← c.same.ensures, c.if-same.true)
 
-pub returns-then-f-eq65 : goal.returns-then-f-eq65
-returns-then-f-eq65 c = search (status_actual, rules)
-
-pub returns-then-f-eq69 : goal.returns-then-f-eq69
-returns-then-f-eq69 c = search (status_estimated, rules)
+pub returns-then-same-2 : goal.returns-then-same-2
+unfolding status_of
+returns-then-same-2 c = rw (← c.same.ensures, c.if-same.false, ← c.same-2.ensures, c.if-same-2.true)
 
 pub returns : goal.returns
-returns c = search (status_other, rules)
+unfolding status_of
+returns c = rw (← c.same.ensures, c.if-same.false, ← c.same-2.ensures, c.if-same-2.false)
