@@ -1,6 +1,6 @@
 -- The detail reader's answers, as what document 01 says of the row: its values, or the number of its verdict.
 -- Assumes nothing.
-use Rattle.std.specs.Prelude.{List, [], ◌∷◌, Bool, true, false, ℕ}
+use Rattle.std.specs.Prelude.{List, Bool, true, false, ℕ}
 use Rattle.report.specs.Outcome.{Outcome, passed, refused}
 use Rattle.report.specs.Verdict.{wrong_status}
 use Rattle.details.specs.declared.value.Value.{Value}
@@ -28,5 +28,5 @@ interval_says (Read i) = passed i
 interval_says (IntervalRefused v) = refused v
 
 abbrev pub detail_says : Detail → Outcome (List Interval)
-detail_says (DetailPassed a b c d) = passed (a ∷ b ∷ c ∷ d ∷ [])
+detail_says (DetailPassed row) = passed row
 detail_says (DetailRefused v) = refused v

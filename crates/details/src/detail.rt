@@ -15,11 +15,14 @@ use text::fields::{after, field};
 pub const PER_ROW: u32 = 4;
 
 // Watt hours, and whether they are estimated.
-#[derive(Clone, Copy)]
+#[derive(Clone, Copy, Debug, Default, PartialEq, Eq)]
 pub struct Interval {
     pub wh: u32,
     pub estimated: bool,
 }
+
+// From left to right.
+pub type Row = [Interval; PER_ROW as usize];
 
 #[derive(Clone, Copy)]
 pub enum Status {
@@ -34,10 +37,10 @@ pub enum IntervalRead {
     Refused(u32),
 }
 
-// The four intervals, or the verdict.
+// The intervals, or the verdict.
 #[derive(Clone, Copy)]
 pub enum Detail {
-    Passed(Interval, Interval, Interval, Interval),
+    Passed(Row),
     Refused(u32),
 }
 
@@ -114,7 +117,7 @@ fn four(a: IntervalRead, b: IntervalRead, c: IntervalRead, d: IntervalRead, empt
         IntervalRead::Refused(verdict) => return Detail::Refused(verdict),
     };
     if empty {
-        return Detail::Passed(a, b, c, d);
+        return Detail::Passed([a, b, c, d]);
     }
     Detail::Refused(MISFIT)
 }

@@ -1,7 +1,7 @@
 // The detail rows of a data record: values in watt hours, four intervals to a row. Nothing here knows of a registry or a table.
 //
 //     match detail::read_detail(line, cr, k) {
-//         Detail::Passed(a, b, c, d) => ..     // row k's intervals, each with its watt hours and its estimate mark
+//         Detail::Passed(row) => ..             // row k's intervals, each with its watt hours and its estimate mark
 //         Detail::Refused(verdict) => ..       // 11, 13, 14, then value by value: 19 to 21, 18, 15
 //     }
 //

@@ -66,33 +66,24 @@ bytes_cut j k w =
     ∙ rw (bytes_low j w, div-eq_of_lt (mod-lt w (pow_pos (8 * j))))
 
 -- BYTES READ into a word of 32 bits, and two such words into one of 64
-join : (x b k w : ℕ) → x < 2 ^ k → b * 2 ^ k < 2 ^ w → bit_or x (b * 2 ^ k % 2 ^ w) ≡ b * 2 ^ k + x
-join x b k w h l = rw (mod-eq_of_lt l, or_shifted_r b k x h)
-
-pub four_bytes : (t : Bytes) (at a b c d : ℕ) → at + 4 ≤ length t
-    → (a ≡ get_or t at 0) × (a < 256) → (b ≡ get_or t (at + 1) 0) × (b < 256) → (c ≡ get_or t (at + 2) 0) × (c < 256) → (d ≡ get_or t (at + 3) 0) × (d < 256)
-    → bytes_of 4 (bit_or (bit_or (bit_or a (b * 2 ^ 8 % 2 ^ 32)) (c * 2 ^ 16 % 2 ^ 32)) (d * 2 ^ 24 % 2 ^ 32)) ≡ take 4 (drop at t)
+pub four_bytes : (t : Bytes) (at n : ℕ) → at + 4 ≤ length t → ((i : ℕ) → get_or t i 0 < 256)
+    → n ≡ get_or t at 0 + get_or t (at + 1) 0 * 2 ^ 8 + get_or t (at + 2) 0 * 2 ^ 16 + get_or t (at + 3) 0 * 2 ^ 24 → bytes_of 4 n ≡ take 4 (drop at t)
 unfolding bytes_of
-four_bytes t at a b c d l ha hb hc hd =
-    rw (
-      four-at t at l,
-      ← ha.0,
-      ← hb.0,
-      ← hc.0,
-      ← hd.0,
-      join a b 8 32 ha.1 (omega arith),
-      join (b * 2 ^ 8 + a) c 16 32 (omega arith) (omega arith),
-      join (c * 2 ^ 16 + (b * 2 ^ 8 + a)) d 24 32 (omega arith) (omega arith),
-    )
-    (cells (omega arith) (omega arith) (omega arith) (omega arith))
+four_bytes t at n l small e =
+    let a = small at in
+    let b = small (at + 1) in
+    let c = small (at + 2) in
+    let d = small (at + 3) in
+    rw (four-at t at l) (cells (omega (arith, e, a)) (omega (arith, e, a, b)) (omega (arith, e, a, b, c)) (omega (arith, e, a, b, c, d)))
   where
     cells : {p q r s p' q' r' s' : ℕ} → p ≡ p' → q ≡ q' → r ≡ r' → s ≡ s' → ◌≡◌ {A = Bytes} (p ∷ q ∷ r ∷ s ∷ []) (p' ∷ q' ∷ r' ∷ s' ∷ [])
     cells e f g h = rw (e, f, g, h)
 
-pub eight-bytes : (t : Bytes) (at a b x y : ℕ) → bytes_of 4 a ≡ take 4 (drop at t) → bytes_of 4 b ≡ take 4 (drop (at + 4) t)
-    → (x ≡ a) × (x < 2 ^ 32) → (y ≡ b) × (y < 2 ^ 32) → bytes_of 8 (bit_or x (y * 2 ^ 32 % 2 ^ 64)) ≡ take 8 (drop at t)
-eight-bytes t at a b x y h g hx hy =
-    rw (join x y 32 64 hx.1 (omega arith), bytes-join 4 4 y x hx.1, hx.0, hy.0, h, g, ← drop-drop 4 at t, take-add 4 4 (drop at t))
+pub eight-bytes : (t : Bytes) (at a b : ℕ) → bytes_of 4 a ≡ take 4 (drop at t) → bytes_of 4 b ≡ take 4 (drop (at + 4) t) → a < 2 ^ 32 → b < 2 ^ 32
+    → bytes_of 8 (bit_or a (b * 2 ^ 32 % 2 ^ 64)) ≡ take 8 (drop at t)
+eight-bytes t at a b h g ha hb =
+    let fits : b * 2 ^ 32 < 2 ^ 64 = omega (arith, hb) in
+    rw (mod-eq_of_lt fits, or_shifted_r b 32 a ha, bytes-join 4 4 b a ha, h, g, ← drop-drop 4 at t, take-add 4 4 (drop at t))
 
 -- A VALUE'S DIGITS: the shifts that set them in line
 module _ (x n d : ℕ) (y : Layout n d) where

@@ -1,6 +1,7 @@
 -- A whole detail line, interval after interval, and that the row's rule gives the same for it.
 -- Assumes nothing.
-use Rattle.std.proofs.Common.{◌≡◌, ℕ, suc, ◌+◌, ◌*◌, ◌/◌, ◌%◌, ◌<◌, ◌≤◌, Bool, true, false, ◌&&◌, eqb, List, [], ◌∷◌, ◌++◌, length, get_or, take, drop, sym, refl, ap, ◌∙◌, append_assoc, append-nil, add-one, arith, length-take, length-take-le, get_or-take, take-suc, take-take, drop-drop, take-add, le-ltb, eq-eqb, eqb-true}
+use Rattle.std.proofs.Common.{◌≡◌, ℕ, suc, ◌+◌, ◌*◌, ◌/◌, ◌%◌, ◌<◌, ◌≤◌, Bool, true, false, ◌&&◌, eqb, List, [], ◌∷◌, ◌++◌, length, get_or, take, drop, sym, refl, ap, ◌∙◌, append_assoc, append-nil, add-one, arith, length-take, length-take-le, get_or-take, take-suc, take-take, drop-drop, take-add, le-ltb, eq-eqb, eqb-true, Option, Some, None, set, length-set, take_all, slice_range, ◌-◌, length-drop}
+use Rattle.std.proofs.lemmas.List.{take_more_set}
 use Rattle.text.specs.Byte.{Bytes, every, equals, starts_with}
 use Rattle.text.specs.Field.{comma, cut, in_front}
 use Rattle.text.specs.Number.{digits_of}
@@ -13,12 +14,11 @@ use Rattle.report.specs.Outcome.{passed}
 use Rattle.lines.specs.Row.{fields_of}
 use Rattle.text.specs.Byte.{is_empty}
 use Rattle.details.specs.Value.{value_of}
-use Rattle.details.specs.Detail.{detail_code, status_of, with_empty, interval_of, four_of, detail_of, row_detail}
+use Rattle.details.specs.Detail.{per_row, detail_code, status_of, with_empty, interval_of, four_of, detail_of, row_detail}
 use Rattle.details.specs.declared.detail.Interval.{Interval}
 use Rattle.direct.specs.Direct.{DetailLine, direct_says}
+use Rattle.direct.specs.declared.Line.{Line}
 use Rattle.direct.specs.Guess.{code_size, span_size, tail_size, tail, status_byte, in_value, value_size, HasTriple, EndsAt}
-use Rattle.direct.specs.declared.Direct.{Direct}
-use Rattle.direct.specs.declared.Direct.TheVariants.{Line, Other}
 use Rattle.text.proofs.Class.{every_append}
 use Rattle.direct.proofs.Every.{in_line, plain-comma, plain-line, line-lf, line-cr}
 
@@ -92,9 +92,9 @@ unfolding Gives cut
 gives-count s [] g = rw g
 gives-count s (i ∷ is) g = rw (next-cut s i g.0 g.1) (omega (arith, gives-count g.0 is g.2))
 
-gives_detail : (code s : Bytes) (a b c d : Interval) → Gives s (a ∷ b ∷ c ∷ d ∷ []) → detail_of (code ∷ cut s) ≡ passed (a ∷ b ∷ c ∷ d ∷ [])
+gives_detail : (code s : Bytes) (row : List Interval) → length row ≡ per_row → Gives s row → detail_of (code ∷ cut s) ≡ passed row
 unfolding Gives detail_of four_of is_empty cut
-gives_detail code s a b c d g =
+gives_detail code s (a ∷ b ∷ c ∷ d ∷ []) long g =
     let g₂ = g.2 in
     let g₃ = g₂.2 in
     let g₄ = g₃.2 in
@@ -110,6 +110,11 @@ gives_detail code s a b c d g =
       next_interval g₂.0 c g₃.0 g₃.1,
       next_interval g₃.0 d g₄.0 g₄.1,
     )
+gives_detail code s [] long g = absurd (omega (arith, long))
+gives_detail code s (a ∷ []) long g = absurd (omega (arith, long))
+gives_detail code s (a ∷ b ∷ []) long g = absurd (omega (arith, long))
+gives_detail code s (a ∷ b ∷ c ∷ []) long g = absurd (omega (arith, long))
+gives_detail code s (a ∷ b ∷ c ∷ d ∷ e ∷ is) long g = absurd (omega (arith, long))
 
 -- THE LINE AS FAR AS READ: the code due, its comma, and the text of these intervals
 pub record LineSoFar (k : ℕ) (t : Bytes) (at : ℕ) (is : List Interval) : Type 0 where
@@ -117,9 +122,9 @@ pub record LineSoFar (k : ℕ) (t : Bytes) (at : ℕ) (is : List Interval) : Typ
   pub text : take at t ≡ detail_code k ++ comma ∷ rest
   pub gives : Gives rest is
 
-line_first : (k : ℕ) (t : Bytes) (r : Bool) → (r ≡ true → take code_size t ≡ detail_code k ++ comma ∷ []) → r ≡ true → LineSoFar k t code_size []
+line-first : (k : ℕ) (t : Bytes) (r : Bool) → (r ≡ true → take code_size t ≡ detail_code k ++ comma ∷ []) → r ≡ true → LineSoFar k t code_size []
 unfolding Gives
-line_first k t r h hr = record { rest = []; text = h hr; gives = refl }
+line-first k t r h hr = record { rest = []; text = h hr; gives = refl }
 
 line_on : (k : ℕ) (t : Bytes) (at end : ℕ) (is : List Interval) (i : Interval) → LineSoFar k t at is → HasTriple t at i end → LineSoFar k t end (is ++ i ∷ [])
 line_on k t at end is i so_far h =
@@ -143,7 +148,7 @@ size-cr : (cr : Bool) → cr_size cr ≤ 1
 size-cr true = omega arith
 size-cr false = omega arith
 
-module _ (k : ℕ) (t : Bytes) (at : ℕ) (a b c d : Interval) (so_far : LineSoFar k t at (a ∷ b ∷ c ∷ d ∷ [])) where
+module _ (k : ℕ) (t : Bytes) (at : ℕ) (row : List Interval) (long : length row ≡ per_row) (so_far : LineSoFar k t at row) where
   line : Bytes
   line = detail_code k ++ comma ∷ so_far.rest
 
@@ -156,16 +161,16 @@ module _ (k : ℕ) (t : Bytes) (at : ℕ) (a b c d : Interval) (so_far : LineSoF
   unfolding line
   line-cut = cut-plain (detail_code k) so_far.rest (code_plain k)
 
-  line_row : (cr : Bool) → length line + cr_size cr ≤ line_limit → row_detail k (record { body = line; cr = cr }) ≡ passed (a ∷ b ∷ c ∷ d ∷ [])
+  line_row : (cr : Bool) → length line + cr_size cr ≤ line_limit → row_detail k (record { body = line; cr = cr }) ≡ passed row
   unfolding row_detail fields_of is_long
   line_row cr l =
       rw (
         le-ltb line_limit (length line + cr_size cr) l,
         line-cut,
         equals_refl (detail_code k),
-        eq-eqb (suc (length (cut so_far.rest))) 14 (omega (arith, gives-count so_far.rest _ so_far.gives)),
+        eq-eqb (suc (length (cut so_far.rest))) 14 (omega (arith, gives-count so_far.rest row so_far.gives, long)),
       )
-      (gives_detail (detail_code k) so_far.rest a b c d so_far.gives)
+      (gives_detail (detail_code k) so_far.rest row long so_far.gives)
 
   -- with the bytes of its CR, if it has one
   cr_bytes : Bool → Bytes
@@ -189,7 +194,7 @@ module _ (k : ℕ) (t : Bytes) (at : ℕ) (a b c d : Interval) (so_far : LineSoF
       let z : at + 0 ≡ at = omega arith in
       rw (e, z, append-nil) so_far.text
 
-  line_read : (n : ℕ) → EndsAt t at n → at + 1 < length t → length t ≤ line_limit → DetailLine k t (a ∷ b ∷ c ∷ d ∷ []) n
+  line_read : (n : ℕ) → EndsAt t at n → at + 1 < length t → length t ≤ line_limit → DetailLine k t row n
   unfolding line kind_of starts_with
   line_read n ends within short =
       let cr : Bool = ends.cr in
@@ -215,35 +220,29 @@ end-behind t at e = record {
   dropped = λ f. eqb-true (get_or t at 0) CR (and_left (eqb (get_or t at 0) CR) (eqb (get_or t (at + 1) 0) LF) e);
 }
 
-triple_far : {t : Bytes} {at : ℕ} {i : Interval} {end : ℕ} → HasTriple t at i end → end ≤ at + value_size + tail_size
-triple_far h = omega (arith, h.ends, h.value.short)
+-- THE LOOP of the reader: i intervals are read, and there is room for those that are left
+pub record RowSoFar (k : ℕ) (t : Bytes) (at i : ℕ) (row : List Interval) : Type 0 where
+  pub long : length row ≡ per_row
+  pub read : LineSoFar k t at (take i row)
+  pub near : at ≤ code_size + i * (value_size + tail_size)
 
--- THE FOUR STEPS of the reader: intervals a to d, and the place behind each
-module _ (t : Bytes) (full : length t ≡ span_size) (a : Interval) (e : ℕ) (first : HasTriple t code_size a e) where
-  pub room : e + value_size + tail_size ≤ length t
-  room = omega (arith, triple_far first)
+pub row-first : (k : ℕ) (t : Bytes) (r : Bool) → (r ≡ true → take code_size t ≡ detail_code k ++ comma ∷ []) → r ≡ true
+    → (row : List Interval) → length row ≡ per_row → RowSoFar k t code_size 0 row
+row-first k t r h hr row long = record { long = long; read = line-first k t r h hr; near = omega arith }
 
-  module _ (b : Interval) (e' : ℕ) (second : HasTriple t e b e') where
-    pub room' : e' + value_size + tail_size ≤ length t
-    room' = omega (arith, triple_far first, triple_far second)
+module _ (k : ℕ) (t : Bytes) (at i : ℕ) (row : List Interval) (so_far : RowSoFar k t at i row) where
+  pub row-on : i < per_row → (v : Interval) (end : ℕ) → HasTriple t at v end → RowSoFar k t end (i + 1) (set row i v)
+  row-on more v end h =
+      record {
+        long = rw (length-set row i v) so_far.long;
+        read = rw (take_more_set row i v (omega (arith, so_far.long))) (line_on k t at end (take i row) v so_far.read h);
+        near = omega (arith, so_far.near, h.ends, h.value.short);
+      }
 
-    module _ (c : Interval) (e'' : ℕ) (third : HasTriple t e' c e'') where
-      pub room'' : e'' + value_size + tail_size ≤ length t
-      room'' = omega (arith, triple_far first, triple_far second, triple_far third)
-
-      module _ (d : Interval) (e''' : ℕ) (fourth : HasTriple t e'' d e''') where
-        pub within : e''' + 1 < length t
-        within = omega (arith, triple_far first, triple_far second, triple_far third, triple_far fourth)
-
-        pub line-done : (k : ℕ) (r : Bool) → (r ≡ true → take code_size t ≡ detail_code k ++ comma ∷ []) → r ≡ true
-            → (n : ℕ) → (0 < n → EndsAt t e''' n) → (n ≡ 0 → ⊥) → DetailLine k t (a ∷ b ∷ c ∷ d ∷ []) n
-        line-done k r h hr n ends some =
-            let line : LineSoFar k t e''' (a ∷ b ∷ c ∷ d ∷ []) =
-            line_on k t e'' e''' (a ∷ b ∷ c ∷ []) d
-            (line_on k t e' e'' (a ∷ b ∷ []) c (line_on k t e e' (a ∷ []) b (line_on k t code_size e [] a (line_first k t r h hr) first) second) third)
-            fourth
-            in
-            line_read k t e''' a b c d line n (ends (omega arith)) within (omega arith)
+  pub row-done : length t ≡ span_size → i ≡ per_row → (n : ℕ) → EndsAt t at n → DetailLine k t row n
+  row-done full all n ends =
+      let whole : take i row ≡ row = take_all i row (omega (arith, so_far.long)) in
+      line_read k t at row so_far.long (rw whole at so_far.read) n ends (omega (arith, so_far.near)) (omega arith)
 
 -- A LINE OF THE SPAN is a line of the piece
 wider : (k m n : ℕ) (s : Bytes) (is : List Interval) → DetailLine k (take m s) is n → DetailLine k s is n
@@ -258,6 +257,13 @@ wider k m n s is l =
       row = rw e at l.row;
     }
 
-pub direct-wider : (r : Direct) (k m : ℕ) (s : Bytes) → direct_says r k (take m s) → direct_says r k s
-direct-wider (Line a b c d n) k m s h = wider k m n s (a ∷ b ∷ c ∷ d ∷ []) h
-direct-wider Other k m s h = tt
+-- `rest` is the piece from a place on, and `span` the front of it
+pub span-said : (piece rest span : Bytes) (at m : ℕ) (r : Option Line) (k : ℕ) → rest ≡ slice_range piece at (length piece) → span ≡ slice_range rest 0 m
+    → direct_says r k span → direct_says r k (drop at piece)
+span-said piece rest span at m r k er es says =
+    let z : m - 0 ≡ m = omega arith in
+    go r (rw (es, er, z, take_all (length piece - at) (drop at piece) (simp length-drop (omega arith))) at says)
+  where
+    go : (r : Option Line) → direct_says r k (take m (drop at piece)) → direct_says r k (drop at piece)
+    go (Some line) h = wider k m line.size (drop at piece) line.row h
+    go None h = tt

@@ -3,7 +3,7 @@
 use Rattle.std.proofs.Common.{◌≡◌, ℕ, zero, suc, ◌+◌, ◌-◌, ◌*◌, ◌^◌, ◌<◌, ◌≤◌, Bool, true, false, cond, not, ◌&&◌, eqb, leb, [], ◌∷◌, ◌++◌, map, length, get_or, take, drop, sym, refl, ap, ◌∙◌, append-nil, arith, length-drop, take-append-drop, length-take, length-take-le, get_or-drop, take-take, take-add, ne_eqb, eqb-true, le-leb, leb-true}
 use Prim.Native.Char.{code}
 use lib.Bits.{bit_xor}
-use borrow.Author.Tests.{lt-leb, eqb-false, not-true, not-false}
+use borrow.Author.Tests.{lt-leb, eqb-false, not-true}
 use Rattle.text.specs.Byte.{Bytes, is_digit, every}
 use Rattle.text.specs.Field.{comma, first_field}
 use Rattle.text.specs.Number.{number_from, leading, behind}
@@ -28,11 +28,6 @@ use Rattle.direct.specs.Guess.{
   BeginsValue,
   BeginsDigits,
   HasTriple,
-  HasDigits,
-  digits_says,
-  tail_says,
-  triple_says,
-  any_says,
   in_value,
   tail,
   status_byte,
@@ -41,14 +36,6 @@ use Rattle.direct.specs.Guess.{
   word_size,
   whole_taken,
 }
-use Rattle.direct.specs.declared.guess.Digits.{Digits}
-use Rattle.direct.specs.declared.guess.Digits.TheVariants.{Word}
-use Rattle.direct.specs.declared.triple.Tail.{Tail}
-use Rattle.direct.specs.declared.triple.Tail.TheVariants.{Status}
-use Rattle.direct.specs.declared.triple.Triple.{Triple}
-use Rattle.direct.specs.declared.triple.Triple.TheVariants.{Read}
-use Rattle.direct.specs.declared.any.AnyTriple.{AnyTriple}
-use Rattle.direct.specs.declared.any.AnyTriple.TheVariants.{Read as AnyRead}
 use Rattle.text.proofs.Class.{every_append}
 use Rattle.direct.proofs.Every.{digits-plain}
 use Rattle.direct.proofs.Numeral.{spread}
@@ -246,55 +233,19 @@ unfolding bytes_of
 tail-bytes true = refl
 tail-bytes false = refl
 
-pub tail-read : (x : ℕ) (s : Bytes) → bytes_of 4 x ≡ take 4 s → (not (eqb x (tail_word true)) && not (eqb x (tail_word false))) ≡ false
-    → take tail_size s ≡ tail (status_byte (eqb x (tail_word true)))
-tail-read x s word h = go (eqb x (tail_word true)) refl h
-  where
-    is : (e : Bool) → x ≡ tail_word e → take tail_size s ≡ tail (status_byte e)
-    is e q = sym word ∙ rw q (tail-bytes e)
+pub tail-read : (x : ℕ) (s : Bytes) (e : Bool) → bytes_of 4 x ≡ take 4 s → x ≡ tail_word e → take tail_size s ≡ tail (status_byte e)
+tail-read x s e word q = sym word ∙ rw q (tail-bytes e)
 
-    go : (e : Bool) → eqb x (tail_word true) ≡ e → (not e && not (eqb x (tail_word false))) ≡ false → take tail_size s ≡ tail (status_byte e)
-    go true q g = is true (eqb-true x (tail_word true) q)
-    go false q g = is false (eqb-true x (tail_word false) (not-false _ g))
-
--- AN INTERVAL: what the readers of its parts answered
-tail-said : (r : Tail) (s : Bytes) (e : Bool) → tail_says r s → r ≡ Status e → take tail_size s ≡ tail (status_byte e)
-tail-said r s e says q = rw q at says
-
-module _ (t : Bytes) (at w n : ℕ) (v : Digits) (says : digits_says v (drop at t)) (ev : v ≡ Word w n) where
-  begun : BeginsDigits (drop at t) w n
-  begun = rw ev at says
-
-  pub digits-short : n ≤ value_size
-  digits-short = begun.value.short
-
-  pub triple-done : (r : Tail) (e : Bool) → tail_says r (drop (at + n) t) → r ≡ Status e → HasDigits t at w e (at + n + tail_size)
-  triple-done r e told q =
-      record {
-        numerals = begun.numerals;
-        triple = record { n = n; value = begun.value; behind = tail-said r (drop (at + n) t) e told q; ends = refl };
-      }
+-- AN INTERVAL, of the answers of the readers of its parts
+pub short-done : (t : Bytes) (at w n : ℕ) → BeginsDigits (drop at t) w n → (m : Bool) → take tail_size (drop (at + n) t) ≡ tail (status_byte m)
+    → (wh : ℕ) → wh ≡ tens_from 0 (bytes_of 8 w) → HasTriple t at (record { wh = wh; estimated = m }) (at + n + tail_size)
+short-done t at w n h m behind wh e = record { n = n; value = rw e h.value; behind = behind; ends = refl }
 
 module _ (t : Bytes) (at wh : ℕ) (f : Bytes) (v : Plain) (e : f ≡ first_field (take (at + value_size - at) (drop at t))) (says : plain_says v ≡ value_of f)
     (ev : v ≡ PlainHours wh) where
   pub long-short : length f ≤ value_size
   long-short = (long-read t at wh f v e says ev).short
 
-  pub long-done : (r : Tail) (m : Bool) → tail_says r (drop (at + length f) t) → r ≡ Status m
+  pub long-done : (m : Bool) → take tail_size (drop (at + length f) t) ≡ tail (status_byte m)
       → HasTriple t at (record { wh = wh; estimated = m }) (at + length f + tail_size)
-  long-done r m told q =
-      record { n = length f; value = long-read t at wh f v e says ev; behind = tail-said r (drop (at + length f) t) m told q; ends = refl }
-
--- its digits, and the number that they write
-module _ (q : Triple) (t : Bytes) (at w : ℕ) (m : Bool) (end : ℕ) (says : triple_says q at t) (eq : q ≡ Read w m end) where
-  found : HasDigits t at w m end
-  found = rw eq at says
-
-  pub numerals-said : every is_numeral (bytes_of 8 w) ≡ true
-  numerals-said = found.numerals
-
-  pub triple-said : (v : ℕ) → v ≡ tens_from 0 (bytes_of 8 w) → HasTriple t at (record { wh = v; estimated = m }) end
-  triple-said v e = rw e found.triple
-
-pub any_said : (q : AnyTriple) (t : Bytes) (at wh : ℕ) (m : Bool) (end : ℕ) → any_says q at t → q ≡ AnyRead wh m end → HasTriple t at (record { wh = wh; estimated = m }) end
-any_said q t at wh m end says eq = rw eq at says
+  long-done m behind = record { n = length f; value = long-read t at wh f v e says ev; behind = behind; ends = refl }

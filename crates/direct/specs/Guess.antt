@@ -11,14 +11,6 @@ use Rattle.report.specs.Outcome.{passed}
 use Rattle.details.specs.Value.{point, whole_digits, part_digits, value_of}
 use Rattle.details.specs.Detail.{per_row}
 use Rattle.details.specs.declared.detail.Interval.{Interval}
-use Rattle.direct.specs.declared.guess.Digits.{Digits}
-use Rattle.direct.specs.declared.guess.Digits.TheVariants.{Word, Other as DigitsOther}
-use Rattle.direct.specs.declared.triple.Tail.{Tail}
-use Rattle.direct.specs.declared.triple.Tail.TheVariants.{Status, Other as TailOther}
-use Rattle.direct.specs.declared.triple.Triple.{Triple}
-use Rattle.direct.specs.declared.triple.Triple.TheVariants.{Read, Other as TripleOther}
-use Rattle.direct.specs.declared.any.AnyTriple.{AnyTriple}
-use Rattle.direct.specs.declared.any.AnyTriple.TheVariants.{Read as AnyRead, Other as AnyOther}
 
 -- a detail line's code with its comma
 abbrev pub code_size : ℕ
@@ -96,33 +88,12 @@ pub record BeginsDigits (s : Bytes) (w n : ℕ) : Type 0 where
   pub numerals : every is_numeral (bytes_of 8 w) ≡ true
   pub value : BeginsValue s (tens_from 0 (bytes_of 8 w)) n
 
-abbrev pub digits_says : Digits → Bytes → Type 0
-digits_says (Word w n) s = BeginsDigits s w n
-digits_says DigitsOther s = Unit {0}
-
-abbrev pub tail_says : Tail → Bytes → Type 0
-tail_says (Status estimated) s = take tail_size s ≡ tail (status_byte estimated)
-tail_says TailOther s = Unit {0}
-
 -- an interval stands at a place and ends before `end`: a value of n bytes, status and empty field, with their commas
 pub record HasTriple (s : Bytes) (at : ℕ) (i : Interval) (end : ℕ) : Type 0 where
   pub n : ℕ
   pub value : BeginsValue (drop at s) i.wh n
   pub behind : take tail_size (drop (at + n) s) ≡ tail (status_byte i.estimated)
   pub ends : end ≡ at + n + tail_size
-
--- the same, with its value's digits in line in a word
-pub record HasDigits (s : Bytes) (at w : ℕ) (estimated : Bool) (end : ℕ) : Type 0 where
-  pub numerals : every is_numeral (bytes_of 8 w) ≡ true
-  pub triple : HasTriple s at (record { wh = tens_from 0 (bytes_of 8 w); estimated = estimated }) end
-
-abbrev pub triple_says : Triple → ℕ → Bytes → Type 0
-triple_says (Read w estimated end) at s = HasDigits s at w estimated end
-triple_says TripleOther at s = Unit {0}
-
-abbrev pub any_says : AnyTriple → ℕ → Bytes → Type 0
-any_says (AnyRead wh estimated end) at s = HasTriple s at (record { wh = wh; estimated = estimated }) end
-any_says AnyOther at s = Unit {0}
 
 -- a line whose intervals end at a place has its LF at n: there, or behind a CR
 pub record EndsAt (s : Bytes) (at n : ℕ) : Type 0 where

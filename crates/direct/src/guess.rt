@@ -1,18 +1,11 @@
 // The digits of a value at a place of the span, found without a loop: where its comma and its point stand is guessed from eight bytes at once,
 // and then the point and the digits are tested. A wrong guess fails a test, so a guess owes nothing but its range.
-ghost use Rattle.std.specs.Prelude.{◌≡◌, ◌+◌, ◌-◌, ◌<◌, ◌≤◌, true, length, drop};
+ghost use Rattle.std.specs.Prelude.{◌≡◌, ◌+◌, ◌-◌, ◌<◌, ◌≤◌, true, length, drop, IfSome};
 ghost use Rattle.details.specs.Value.{point};
-ghost use Rattle.direct.specs.Guess.{value_size, tail_size, word_size, Layout, digits_says};
+ghost use Rattle.direct.specs.Guess.{value_size, tail_size, word_size, Layout, BeginsDigits};
 
 use crate::word::{aligned, all_numerals, eight};
 use details::value::PART_DIGITS;
-
-// A value's digits in line, in one word, and how many bytes the value has; or it is for another reader. `word::number` makes watt hours of them.
-#[derive(Clone, Copy)]
-pub enum Digits {
-    Word(u64, usize),
-    Other,
-}
 
 // Digits before the point that a word has room for, beside those behind it.
 const WHOLE_TAKEN: usize = WORD - PART_DIGITS;
@@ -26,25 +19,14 @@ const POINTS: u64 = 0x2e2e2e2e2e2e2e2e;
 
 const ZEROS: u64 = 0x3030303030303030;
 
-// A cast by itself, so that no caller has to show that it fits.
-fn wide_place(x: u32) -> usize {
-    x as usize
-}
-
-fn least(a: usize, b: usize) -> usize
-    ensures { (result ≤ a) × (result ≤ b) }
-{
-    if a < b { a } else { b }
-}
-
 // Where the word first has the byte that the pattern repeats; 8 if nowhere. c has its first zero byte there, and m its lowest bit: taking
 // one from each byte of c turns a zero into 255, and sets no top bit before it that c has not.
 fn guess(word: u64, pattern: u64) -> usize
     ensures { result ≤ word_size }
 {
     let c = word ^ pattern;
-    let m = std::num::wrapping_sub_u64(c, 0x0101010101010101) & !c & 0x8080808080808080;
-    least(wide_place(u64::trailing_zeros(m) / 8), WORD)
+    let m = c.wrapping_sub(0x0101010101010101) & !c & 0x8080808080808080;
+    m.trailing_zeros() as usize / 8
 }
 
 // Whether a value of a word may have n bytes with its point at d (at n: no point).
@@ -63,23 +45,24 @@ fn stop_byte(f: usize) -> u8
     if f == 0 { b',' } else { b'.' }
 }
 
-// The digits of the value at a place. One that goes on behind the word is cut there: its comma will be missed.
-pub fn read_digits(t: &[u8], at: usize) -> Digits
+// The digits of the value at a place, in line in one word, and how many bytes the value has; or it is for another reader. `word::number` makes
+// watt hours of them. A value that goes on behind the word is cut there: its comma will be missed.
+pub fn read_digits(t: &[u8], at: usize) -> Option<(u64, usize)>
     requires { at + value_size + tail_size ≤ length t.now }
-    ensures { digits_says result (drop at t.now) }
+    ensures { IfSome result (λ v. BeginsDigits (drop at t.now) v.0 v.1) }
 {
     let w = eight(t, at);
     let n = guess(w, COMMAS);
-    let d = least(guess(w, POINTS), n);
+    let d = guess(w, POINTS).min(n);
     if !has_layout(n, d) {
-        return Digits::Other;
+        return None;
     }
     if t[at + d] != stop_byte(n - d) {
-        return Digits::Other;
+        return None;
     }
     let a = aligned(w ^ ZEROS, n, d);
     if !all_numerals(a) {
-        return Digits::Other;
+        return None;
     }
-    Digits::Word(a, n)
+    Some((a, n))
 }

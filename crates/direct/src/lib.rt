@@ -1,42 +1,39 @@
 // The fast way through a detail line: the whole line is read straight on the piece, with no search for its LF and no cutting into fields.
 //
-// It takes the common lines, whose values have at most eight bytes and five digits before the point; `any::read_any` takes values of any
-// length, and is for a line that is left. Both take lines with and without a CR, and want as many bytes of the piece as the longest such line has. For any
-// other, right or wrong, they answer `Other`, and the plain reader of `details` decides:
+// It takes lines with and without a CR, and wants as many bytes of the piece as the longest such line has. For any other, right or wrong, it
+// answers nothing, and the plain reader of `details` decides:
 //
 //     match direct::read_direct(piece, at, k) {
-//         Direct::Line(a, b, c, d, n) => ..   // n bytes at `at`, then LF: detail line k with these intervals
-//         Direct::Other => ..                 // nothing is known of the line, nor that there is one
+//         Some(line) => ..   // line.size bytes at `at`, then LF: detail line k with the intervals line.row
+//         None => ..         // nothing is known of the line, nor that there is one
 //     }
 //
-// For whoever changes it: what `Line` owes is specs/Direct.antt, which cites the row's rule in details; `Other` owes nothing, so a reader that
+// For whoever changes it: what a line owes is specs/Direct.antt, which cites the row's rule in details; `None` owes nothing, so a reader that
 // takes fewer lines is slower and still right. The shape was chosen by measuring: bytes tested and digits read several at once, in a word,
-// the four intervals one after another with no loop, and a span of fixed size, of which every index is proved to be inside. `read_triple` and
-// `read_direct` have to stay small: the compiler makes them a part of their caller's code (triple.rt and any.rt have what it costs otherwise).
+// and a span of fixed size, of which every index is proved to be inside. All that a common line takes stands in its caller's loop: without
+// `inline(always)` the compiler leaves calls in it, and common lines load an eighth slower.
 #![tactic(auto)]
 
-ghost use Rattle.std.specs.Prelude.{◌≡◌, ◌+◌, ◌<◌, ◌≤◌, true, [], ◌∷◌, ◌++◌, length, take, drop};
+ghost use Rattle.std.specs.Prelude.{◌≡◌, ◌+◌, ◌<◌, ◌≤◌, true, [], ◌∷◌, ◌++◌, length, take, drop, IfSome};
 ghost use Rattle.text.specs.Field.{comma};
 ghost use Rattle.details.specs.Detail.{detail_code};
 ghost use Rattle.direct.specs.Direct.{direct_says};
 ghost use Rattle.direct.specs.Guess.{span_size, code_size, EndsAt};
 
-use crate::triple::{TAIL, Triple, read_triple};
-use crate::word::number;
-use details::detail::{Interval, PER_ROW};
+use crate::triple::{TAIL, read_triple};
+use details::detail::{Interval, PER_ROW, Row};
 use details::value::{PART_DIGITS, WHOLE_DIGITS};
 use lines::line::{CR, LF};
 
-pub mod any;
 mod guess;
 mod triple;
 mod word;
 
-// A whole detail line, of so many bytes before its LF; or it is for the plain reader.
+// A detail line: its intervals, and how many bytes it has before its LF.
 #[derive(Clone, Copy)]
-pub enum Direct {
-    Line(Interval, Interval, Interval, Interval, usize),
-    Other,
+pub struct Line {
+    pub row: Row,
+    pub size: usize,
 }
 
 // A detail line's code with its comma.
@@ -48,7 +45,8 @@ const VALUE: usize = WHOLE_DIGITS + 1 + PART_DIGITS;
 // The longest line that is taken, with CR and LF.
 const SPAN: usize = CODE + PER_ROW as usize * (VALUE + TAIL) + 2;
 
-// Whether the span begins with the code of detail row k and a comma.
+// Whether the span begins with the code of detail row k and a comma. Tried: `t.starts_with` of an array of these bytes. It is written byte by byte and
+// read at once as a word, for which the processor waits, and a realistic file loads 5 percent slower.
 fn begins_code(t: &[u8], k: u32) -> bool
     requires { code_size ≤ length t.now }
     ensures { result ≡ true → take code_size t.now ≡ detail_code k ++ comma ∷ [] }
@@ -66,77 +64,44 @@ fn begins_code(t: &[u8], k: u32) -> bool
         & (t[8] == b',')
 }
 
-// Where the line has its LF whose intervals end at a place: there, or behind a CR. 0, if it goes on.
-fn row_end(t: &[u8], at: usize) -> usize
+// Where the line has its LF whose intervals end at a place: there, or behind a CR; none, if it goes on.
+fn row_end(t: &[u8], at: usize) -> Option<usize>
     requires { at + 1 < length t.now }
-    ensures { 0 < result → EndsAt t.now at result }
+    ensures { IfSome result (EndsAt t.now at) }
 {
     if t[at] == LF {
-        return at;
+        return Some(at);
     }
     if (t[at] == CR) & (t[at + 1] == LF) {
-        return at + 1;
+        return Some(at + 1);
     }
-    0
+    None
 }
 
-// A detail line k, with its LF, at the front of the span.
-fn common_line(t: &[u8], k: u32) -> Direct
+// Detail line k, with its LF, at the front of the span.
+fn read_line(t: &[u8], k: u32) -> Option<Line>
     requires { length t.now ≡ span_size }
     ensures { direct_says result k t.now }
 {
     if !begins_code(t, k) {
-        return Direct::Other;
+        return None;
     }
-    let q = read_triple(t, CODE);
-    let Triple::Read(w, estimated, at) = q else {
-        return Direct::Other;
-    };
-    let a = Interval {
-        wh: number(w),
-        estimated,
-    };
-    let q = read_triple(t, at);
-    let Triple::Read(w, estimated, at) = q else {
-        return Direct::Other;
-    };
-    let b = Interval {
-        wh: number(w),
-        estimated,
-    };
-    let q = read_triple(t, at);
-    let Triple::Read(w, estimated, at) = q else {
-        return Direct::Other;
-    };
-    let c = Interval {
-        wh: number(w),
-        estimated,
-    };
-    let q = read_triple(t, at);
-    let Triple::Read(w, estimated, at) = q else {
-        return Direct::Other;
-    };
-    let d = Interval {
-        wh: number(w),
-        estimated,
-    };
-    let n = row_end(t, at);
-    if n == 0 {
-        return Direct::Other;
+    let mut row = [Interval::default(); PER_ROW as usize];
+    let mut at = CODE;
+    for i in 0..row.len() {
+        let (interval, end) = read_triple(t, at)?;
+        row[i] = interval;
+        at = end;
     }
-    Direct::Line(a, b, c, d, n)
+    let size = row_end(t, at)?;
+    Some(Line { row, size })
 }
 
-// A detail line k, with its LF, at a place of the piece.
-pub fn read_direct(piece: &[u8], at: usize, k: u32) -> Direct
+// Detail line k, with its LF, at a place of the piece.
+#[inline(always)]
+pub fn read_direct(piece: &[u8], at: usize, k: u32) -> Option<Line>
     ensures { direct_says result k (drop at piece.now) }
 {
-    if piece.len() < SPAN {
-        return Direct::Other;
-    }
-    if piece.len() - SPAN < at {
-        return Direct::Other;
-    }
-    let end = at + SPAN;
-    common_line(&piece[at..end], k)
+    let span = piece.get(at..)?.get(..SPAN)?;
+    read_line(span, k)
 }

@@ -1,23 +1,13 @@
 // Value, status and empty field of one interval, at a place of the span.
-ghost use Rattle.std.specs.Prelude.{◌+◌, ◌≤◌, length, drop};
-ghost use Rattle.direct.specs.Guess.{value_size, tail_size, tail_says, triple_says};
+ghost use Rattle.std.specs.Prelude.{◌≡◌, ◌+◌, ◌≤◌, length, take, drop, IfSome};
+ghost use Rattle.direct.specs.Guess.{value_size, tail_size, tail, status_byte, HasTriple};
 
-use crate::guess::{Digits, read_digits};
-use crate::word::four;
-
-// Whether a value is estimated; or what stands behind it is for the plain reader.
-#[derive(Clone, Copy)]
-pub enum Tail {
-    Status(bool),
-    Other,
-}
-
-// A value's digits in line, whether it is estimated, and the place behind; or it is for another reader.
-#[derive(Clone, Copy)]
-pub enum Triple {
-    Read(u64, bool, usize),
-    Other,
-}
+use crate::VALUE;
+use crate::guess::read_digits;
+use crate::word::{four, number};
+use details::detail::Interval;
+use details::value::{Value, read_value};
+use text::fields::field;
 
 // Behind a value: comma, status, comma, the empty field, comma; and these as words, ",A,," and ",E,,".
 pub const TAIL: usize = 4;
@@ -26,33 +16,53 @@ const ACTUAL: u32 = 0x2c2c412c;
 
 const ESTIMATED: u32 = 0x2c2c452c;
 
-// What stands behind a value.
-pub fn read_tail(t: &[u8], at: usize) -> Tail
+// Whether the value before a place is estimated, by what stands behind it.
+fn read_tail(t: &[u8], at: usize) -> Option<bool>
     requires { at + tail_size ≤ length t.now }
-    ensures { tail_says result (drop at t.now) }
+    ensures { IfSome result (λ e. take tail_size (drop at t.now) ≡ tail (status_byte e)) }
 {
-    let s = four(t, at);
-    let estimated = s == ESTIMATED;
-    if !estimated & (s != ACTUAL) {
-        return Tail::Other;
+    match four(t, at) {
+        ACTUAL => Some(false),
+        ESTIMATED => Some(true),
+        _ => None,
     }
-    Tail::Status(estimated)
 }
 
-// An interval with a value that a word holds. The number is left to the caller: with `number` in it, this is too large for the compiler to make it a
-// part of the line's reader, and common lines load a twelfth slower.
-pub fn read_triple(t: &[u8], at: usize) -> Triple
+// An interval with a value that a word holds, and the place behind.
+#[inline(always)]
+fn short_triple(t: &[u8], at: usize) -> Option<(Interval, usize)>
     requires { at + value_size + tail_size ≤ length t.now }
-    ensures { triple_says result at t.now }
+    ensures { IfSome result (λ i. HasTriple t.now at i.0 i.1) }
 {
-    let v = read_digits(t, at);
-    let Digits::Word(w, n) = v else {
-        return Triple::Other;
-    };
+    let (w, n) = read_digits(t, at)?;
     let behind = at + n;
-    let s = read_tail(t, behind);
-    let Tail::Status(estimated) = s else {
-        return Triple::Other;
+    let estimated = read_tail(t, behind)?;
+    let wh = number(w);
+    Some((Interval { wh, estimated }, behind + TAIL))
+}
+
+// An interval whose value is cut at its comma, however long it is. A rare call, so that a common line pays nothing for it.
+#[cold]
+#[inline(never)]
+fn long_triple(t: &[u8], at: usize) -> Option<(Interval, usize)>
+    requires { at + value_size + tail_size ≤ length t.now }
+    ensures { IfSome result (λ i. HasTriple t.now at i.0 i.1) }
+{
+    let end = at + VALUE;
+    let f = field(&t[at..end]);
+    let Value::WattHours(wh) = read_value(f) else {
+        return None;
     };
-    Triple::Read(w, estimated, behind + TAIL)
+    let behind = at + f.len();
+    let estimated = read_tail(t, behind)?;
+    Some((Interval { wh, estimated }, behind + TAIL))
+}
+
+// An interval, and the place behind; or it is for the plain reader.
+#[inline(always)]
+pub fn read_triple(t: &[u8], at: usize) -> Option<(Interval, usize)>
+    requires { at + value_size + tail_size ≤ length t.now }
+    ensures { IfSome result (λ i. HasTriple t.now at i.0 i.1) }
+{
+    short_triple(t, at).or_else(|| long_triple(t, at))
 }

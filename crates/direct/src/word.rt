@@ -1,34 +1,14 @@
 // Bytes of a text as one number, a word, the first the lowest, and what is done to all of them at once: no loop, and no branch for each.
-ghost use Rattle.std.specs.Prelude.{◌≡◌, ◌+◌, ◌^◌, ◌<◌, ◌≤◌, true, length, take, drop};
+ghost use Rattle.std.specs.Prelude.{◌≡◌, ◌+◌, ◌≤◌, true, length, take, drop};
 ghost use Rattle.text.specs.Byte.{every};
 ghost use Rattle.direct.specs.Guess.{Layout, Aligned, bytes_of, is_numeral, tens_from};
-
-// Casts by themselves, so that no caller has to show that they fit.
-fn wide(x: u8) -> u32
-    ensures { (result ≡ x) × (result < 256) }
-{
-    x as u32
-}
-
-fn wide_word(x: u32) -> u64
-    ensures { (result ≡ x) × (result < 2 ^ 32) }
-{
-    x as u64
-}
-
-fn narrow(x: u64) -> u32
-    requires { x < 2 ^ 32 }
-    ensures { result ≡ x }
-{
-    x as u32
-}
 
 // Four bytes of a text. The compiler makes one load of it.
 pub fn four(t: &[u8], at: usize) -> u32
     requires { at + 4 ≤ length t.now }
     ensures { bytes_of 4 result ≡ take 4 (drop at t.now) }
 {
-    wide(t[at]) | (wide(t[at + 1]) << 8) | (wide(t[at + 2]) << 16) | (wide(t[at + 3]) << 24)
+    u32::from_le_bytes([t[at], t[at + 1], t[at + 2], t[at + 3]])
 }
 
 // Eight bytes.
@@ -36,7 +16,7 @@ pub fn eight(t: &[u8], at: usize) -> u64
     requires { at + 8 ≤ length t.now }
     ensures { bytes_of 8 result ≡ take 8 (drop at t.now) }
 {
-    wide_word(four(t, at)) | (wide_word(four(t, at + 4)) << 32)
+    u64::from(four(t, at)) | (u64::from(four(t, at + 4)) << 32)
 }
 
 // A value's digits in line: of its n bytes the d before the point in bytes 0 to 4, with zeros before them, and those behind the point in
@@ -55,7 +35,7 @@ pub fn aligned(x: u64, n: usize, d: usize) -> u64
 pub fn all_numerals(a: u64) -> bool
     ensures { result ≡ true → every is_numeral (bytes_of 8 a) ≡ true }
 {
-    (a | std::num::wrapping_add_u64(a, 0x7676767676767676)) & 0x8080808080808080 == 0
+    (a | a.wrapping_add(0x7676767676767676)) & 0x8080808080808080 == 0
 }
 
 // The number that eight bytes of 9 at most write: that of each pair, in 16 bits, of each two pairs, in 32, and of all.
@@ -65,5 +45,5 @@ pub fn number(a: u64) -> u32
 {
     let p = (a * 10 + (a >> 8)) & 0x00ff00ff00ff00ff;
     let q = p * 100 + (p >> 16);
-    narrow(q % 65536 * 10000 + (q >> 32) % 65536)
+    (q % 65536 * 10000 + (q >> 32) % 65536) as u32
 }

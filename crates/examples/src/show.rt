@@ -124,12 +124,11 @@ fn interval(rt: &impl Print, i: Interval) -> io::Result<()> {
 pub fn detail(rt: &impl Print, k: u32, line: &[u8]) -> io::Result<()> {
     match read_detail(line, false, k) {
         Detail::Refused(verdict) => number(rt, verdict)?,
-        Detail::Passed(a, b, c, d) => {
+        Detail::Passed(intervals) => {
             number(rt, 0)?;
-            interval(rt, a)?;
-            interval(rt, b)?;
-            interval(rt, c)?;
-            interval(rt, d)?;
+            for i in intervals {
+                interval(rt, i)?;
+            }
         }
     }
     row(rt, line)

@@ -1,5 +1,5 @@
 // Where a line of a piece ends.
-ghost use Rattle.std.specs.Prelude.{◌≡◌, cond, ◌<◌, ◌≤◌, eqb, length};
+ghost use Rattle.std.specs.Prelude.{◌≡◌, cond, ◌≤◌, eqb, length, IfSome};
 ghost use Rattle.text.specs.Byte.{every};
 ghost use Rattle.lines.specs.Line.{not_lf};
 ghost use Rattle.lines.specs.End.{NoneTo, LineEnd, EmptyAt};
@@ -53,25 +53,25 @@ pub fn line_end(piece: &[u8], at: usize) -> usize
     e
 }
 
-// How many bytes an empty line at a place has, with its LF: an LF, or a CR and an LF. 0, if there is another line, or what the piece has is not enough to
-// tell.
-pub fn empty_line(piece: &[u8], at: usize) -> usize
-    ensures { 0 < result → EmptyAt piece.now at result }
+// How many bytes an empty line at a place has, with its LF: an LF, or a CR and an LF. None, if there is another line, or what the piece has is not
+// enough to tell.
+pub fn empty_line(piece: &[u8], at: usize) -> Option<usize>
+    ensures { IfSome result (EmptyAt piece.now at) }
 {
     let n = piece.len();
     if n <= at {
-        return 0;
+        return None;
     }
     if piece[at] == LF {
-        return 1;
+        return Some(1);
     }
     if n - at < 2 {
-        return 0;
+        return None;
     }
     if (piece[at] == CR) & (piece[at + 1] == LF) {
-        return 2;
+        return Some(2);
     }
-    0
+    None
 }
 
 // The bytes of a line: those that were kept of it, with its end behind them, or a part of the piece, where none was held.

@@ -1,13 +1,14 @@
 -- What each row makes of its record, at each answer of its reader.
 -- Assumes nothing.
 use mathlib.Core.Path.{◌≡◌, refl, sym, ap, ◌∙◌}
-use mathlib.Core.List.{[], ◌∷◌}
+use mathlib.Core.List.{List, []}
 use mathlib.Core.Bool.{Bool, true, false, ◌&&◌, ◌||◌}
 use Prim.Native.Nat.{ℕ, suc, ◌+◌, ◌-◌, ◌*◌, ◌/◌, ◌<◌, ◌≤◌}
 use native.Mathlib.Numerals.{add-one}
 use native.Mathlib.Omega.{arith}
 use lib.Dec.{eqb, leb}
-use lib.ListN.{length, take}
+use lib.ListN.{length, get_or, take, drop}
+use Rattle.std.proofs.lemmas.List.{drop_more, drop_all}
 use borrow.Author.Tests.{eqb-true, leb-true, eq-eqb, ne_eqb, lt-ltb, le-ltb}
 use Rattle.calendar.specs.Date.{is_date}
 use Rattle.calendar.specs.Answer.{intervals_on_date}
@@ -226,14 +227,17 @@ module _ (reg id sender : Bytes) (p : Progress) (words : Words) (j : Judgement) 
 
 -- ---- DETAIL ROWS
 
-pub four-put : (w w₁ w₂ w₃ w₄ : Words) (i : ℕ) (a b c d : Interval) → w₁ ≡ with_interval w i a → w₂ ≡ with_interval w₁ (i + 1) b
-    → w₃ ≡ with_interval w₂ (i + 2) c → w₄ ≡ with_interval w₃ (i + 3) d → w₄ ≡ with_intervals w i (a ∷ b ∷ c ∷ d ∷ [])
+-- where the intervals of a row from i on are still to be put: one more is, and none is left
+pub put-on : (w w' : Words) (at i : ℕ) (row : List Interval) (v : Interval) → i < length row → w' ≡ with_interval w (at + i) (get_or row i v)
+    → with_intervals w' (at + (i + 1)) (drop (i + 1) row) ≡ with_intervals w (at + i) (drop i row)
 unfolding with_intervals
-four-put w w₁ w₂ w₃ w₄ i a b c d e₁ e₂ e₃ e₄ =
-    let one : i + 1 ≡ suc i = omega arith in
-    let two : i + 2 ≡ suc (suc i) = omega arith in
-    let three : i + 3 ≡ suc (suc (suc i)) = omega arith in
-    rw (e₄, e₃, e₂, e₁, one, two, three)
+put-on w w' at i row v more e =
+    let next : at + (i + 1) ≡ suc (at + i) = omega arith in
+    rw (drop_more row i v more, next, e)
+
+pub put-done : (w : Words) (at i : ℕ) (row : List Interval) → length row ≤ i → with_intervals w at (drop i row) ≡ w
+unfolding with_intervals
+put-done w at i row all = rw (drop_all i row all)
 
 module _ (reg id sender : Bytes) (p : Progress) (k : ℕ) (words : Words) where
   -- the checks ask nothing of how many rows were read
@@ -266,13 +270,13 @@ module _ (reg id sender : Bytes) (p : Progress) (words : Words) (l : Line) (few 
   unfolding detail_row
   detail_refused v h = rw (due_detail reg (rows_of p id sender words) l few, ← e, h)
 
-  module _ (a b c d : Interval) (h : r ≡ DetailPassed a b c d) where
+  module _ (row : List Interval) (h : r ≡ DetailPassed row) where
     pub detail_past : max_details ≤ p.read - header_rows → refused_with wrong_code 0 p.day ≡ next_row reg (rows_of p id sender words) l
     unfolding detail_row
     detail_past m = rw (due_detail reg (rows_of p id sender words) l few, ← e, h, le-ltb (p.read - header_rows) max_details m)
 
-    pub detail_in : p.read - header_rows < max_details → (row : Row)
-        → row ≡ after_detail reg (p.read - header_rows) (with_row (rows_of p id sender words) (with_intervals words ((p.read - header_rows) * per_row) (a ∷ b ∷ c ∷ d ∷ [])) sender)
-        → row ≡ next_row reg (rows_of p id sender words) l
+    pub detail_in : p.read - header_rows < max_details → (step : Row)
+        → step ≡ after_detail reg (p.read - header_rows) (with_row (rows_of p id sender words) (with_intervals words ((p.read - header_rows) * per_row) row) sender)
+        → step ≡ next_row reg (rows_of p id sender words) l
     unfolding detail_row
-    detail_in m row g = g ∙ rw (due_detail reg (rows_of p id sender words) l few, ← e, h, lt-ltb (p.read - header_rows) max_details m)
+    detail_in m step g = g ∙ rw (due_detail reg (rows_of p id sender words) l few, ← e, h, lt-ltb (p.read - header_rows) max_details m)

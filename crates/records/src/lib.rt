@@ -21,7 +21,7 @@ ghost use Rattle.records.specs.declared.RowRead.TheVariants.{GoesOn};
 use calendar::intervals_on;
 use cell::{Cell, begin, put_interval, put_stamp};
 use checks::{Judgement, judge};
-use details::detail::{Detail, Interval, PER_ROW, read_detail};
+use details::detail::{Detail, PER_ROW, Row, read_detail};
 use headers::four::Four;
 use headers::one::{Channel, One};
 use headers::thirty::Thirty;
@@ -238,15 +238,14 @@ pub fn check(
 }
 
 // Puts the intervals of detail row k, from 0.
-pub fn put_intervals(words: &mut [u32], k: u32, a: Interval, b: Interval, c: Interval, d: Interval)
+pub fn put_intervals(words: &mut [u32], k: u32, row: &Row)
     requires { (k < max_details) × (length words.old ≡ width) }
-    ensures { words.new ≡ with_intervals words.old (k * per_row) (a ∷ b ∷ c ∷ d ∷ []) }
+    ensures { words.new ≡ with_intervals words.old (k * per_row) row.now }
 {
-    let i = (k * PER_ROW) as usize;
-    put_interval(words, i, a);
-    put_interval(words, i + 1, b);
-    put_interval(words, i + 2, c);
-    put_interval(words, i + 3, d);
+    let first = (k * PER_ROW) as usize;
+    for (i, interval) in row.iter().enumerate() {
+        put_interval(words, first + i, *interval);
+    }
 }
 
 // Detail row k is read and its intervals are put: it was the last, or another is due.
@@ -273,10 +272,7 @@ fn after_detail(
 pub fn take_detail(
     p: Progress,
     k: u32,
-    a: Interval,
-    b: Interval,
-    c: Interval,
-    d: Interval,
+    row: &Row,
     registry: &[u8],
     meters: &[usize],
     owners: &[usize],
@@ -286,9 +282,9 @@ pub fn take_detail(
     words: &mut [u32],
 ) -> RowRead
     requires { Indexed registry.now meters.now owners.now known × Sized id.now sender.now words.old × Few p × (k < max_details) }
-    ensures { (row_says result p.day id.now sender.now words.new ≡ after_detail registry.now k (with_row (rows_of p id.now sender.now words.old) (with_intervals words.old (k * per_row) (a ∷ b ∷ c ∷ d ∷ [])) sender.now)) × (length words.new ≡ width) }
+    ensures { (row_says result p.day id.now sender.now words.new ≡ after_detail registry.now k (with_row (rows_of p id.now sender.now words.old) (with_intervals words.old (k * per_row) row.now) sender.now)) × (length words.new ≡ width) }
 {
-    put_intervals(words, k, a, b, c, d);
+    put_intervals(words, k, row);
     after_detail(p, k, registry, meters, owners, known, id, sender)
 }
 
@@ -311,12 +307,12 @@ fn row_detail(
     let k = p.read - HEADER_ROWS;
     match read_detail(line, cr, k) {
         Detail::Refused(verdict) => RowRead::Refused(verdict, 0),
-        Detail::Passed(a, b, c, d) => {
+        Detail::Passed(row) => {
             if MAX_DETAILS <= k {
                 return RowRead::Refused(WRONG_CODE, 0);
             }
             take_detail(
-                p, k, a, b, c, d, registry, meters, owners, known, id, sender, words,
+                p, k, &row, registry, meters, owners, known, id, sender, words,
             )
         }
     }

@@ -34,7 +34,7 @@ use Rattle.headers.specs.declared.one.Channel.TheVariants.{Load, Generation}
 use Rattle.headers.specs.declared.time.Stamp.{Stamp}
 use Rattle.details.specs.Detail.{detail_code, status_of, with_empty, interval_of, four_of as four_intervals, detail_of, row_detail}
 use Rattle.details.specs.declared.detail.Interval.{Interval}
-use Rattle.rowtext.specs.Text.{with_commas, time_text, stamp_text, channel_text, value_text, status_text, interval_fields, line_one, line_two, line_three, line_four, line_thirty, line_detail}
+use Rattle.rowtext.specs.Text.{with_commas, time_text, stamp_text, channel_text, value_text, status_text, interval_fields, row_fields, line_one, line_two, line_three, line_four, line_thirty, line_detail}
 use Rattle.rowtext.specs.Value.{value_end}
 use Rattle.rowtext.proofs.Lengths.{time_length, one-length, three-length, four-length, thirty-length, detail_length}
 use Rattle.roundtrip.proofs.Fields.{Plain, AllPlain, none, ◌also◌, digits-plain, alnum-plain, joined_no_lf, joined-ended, fields_back}
@@ -230,20 +230,20 @@ unfolding every
 interval_plain v h = value-plain v.wh also status_plain v.estimated also refl also h
 
 module _ (k : ℕ) (a b c d : Interval) where
-  detail_plain : AllPlain (detail_code k ∷ (interval_fields a ++ interval_fields b ++ interval_fields c ++ interval_fields d ++ [] ∷ []))
-  unfolding every
+  detail_plain : AllPlain (detail_code k ∷ row_fields (a ∷ b ∷ c ∷ d ∷ []))
+  unfolding every row_fields
   detail_plain = code_plain k also interval_plain a (interval_plain b (interval_plain c (interval_plain d (refl also none))))
 
-  pub detail_no_lf : NoLf (line_detail k a b c d)
+  pub detail_no_lf : NoLf (line_detail k (a ∷ b ∷ c ∷ d ∷ []))
   unfolding line_detail
   detail_no_lf = joined_no_lf _ detail_plain
 
-  pub detail_kind : kind_of (ended_line (line_detail k a b c d)).body ≡ Detail
+  pub detail_kind : kind_of (ended_line (line_detail k (a ∷ b ∷ c ∷ d ∷ []))).body ≡ Detail
   unfolding line_detail with_commas kind_of starts_with
   detail_kind = rw (joined-ended _ _ detail_plain)
 
-  pub detail_back : a.wh < value_end → b.wh < value_end → c.wh < value_end → d.wh < value_end → row_detail k (ended_line (line_detail k a b c d)) ≡ passed (a ∷ b ∷ c ∷ d ∷ [])
+  pub detail_back : a.wh < value_end → b.wh < value_end → c.wh < value_end → d.wh < value_end → row_detail k (ended_line (line_detail k (a ∷ b ∷ c ∷ d ∷ []))) ≡ passed (a ∷ b ∷ c ∷ d ∷ [])
   unfolding line_detail row_detail detail_of four_intervals is_empty
   detail_back ha hb hc hd =
-      let short : length (line_detail k a b c d) ≤ line_limit = omega (arith, detail_length k a b c d) in
+      let short : length (line_detail k (a ∷ b ∷ c ∷ d ∷ [])) ≤ line_limit = omega (arith, detail_length k (a ∷ b ∷ c ∷ d ∷ []) refl) in
       rw (fields_back _ _ detail_plain 14 refl short, interval_back a ha, interval_back b hb, interval_back c hc, interval_back d hd)

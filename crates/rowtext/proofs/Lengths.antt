@@ -3,7 +3,7 @@
 use mathlib.Core.Path.{◌≡◌, refl, ◌∙◌}
 use mathlib.Core.List.{List, [], ◌∷◌}
 use mathlib.Core.Bool.{Bool, true, false}
-use Prim.Native.Nat.{ℕ, zero, suc, ◌+◌, ◌/◌, ◌%◌, ◌≤◌}
+use Prim.Native.Nat.{ℕ, zero, suc, ◌+◌, ◌*◌, ◌/◌, ◌%◌, ◌≤◌}
 use native.Mathlib.Omega.{arith}
 use lib.ListN.{length, length-append}
 use Rattle.text.specs.Byte.{Bytes, ascii}
@@ -17,9 +17,9 @@ use Rattle.headers.specs.Time.{date_size, clock_size, time_size, day_stop}
 use Rattle.headers.specs.Thirty.{sender_name}
 use Rattle.headers.specs.declared.time.Stamp.{Stamp}
 use Rattle.details.specs.Value.{point, whole_digits, part_digits, per_kwh}
-use Rattle.details.specs.Detail.{detail_code}
+use Rattle.details.specs.Detail.{per_row, detail_code}
 use Rattle.details.specs.declared.detail.Interval.{Interval}
-use Rattle.rowtext.specs.Text.{with_commas, time_text, stamp_text, channel_text, value_text, status_text, interval_fields, line_one, line_two, line_three, line_four, line_thirty, line_detail}
+use Rattle.rowtext.specs.Text.{with_commas, time_text, stamp_text, channel_text, value_text, status_text, interval_fields, row_fields, line_one, line_two, line_three, line_four, line_thirty, line_detail}
 
 -- ---- fields
 
@@ -83,7 +83,11 @@ thirty-length o = joined_length _ _ ∙ omega (arith, length-append (ascii "MRE=
 interval_length : (v : Interval) → behind_commas (interval_fields v) ≤ 14
 interval_length v = omega (arith, value-length v.wh, status-length v.estimated)
 
-pub detail_length : (k : ℕ) (a b c d : Interval) → length (line_detail k a b c d) ≤ 65
+row_length : (vs : List Interval) → behind_commas (row_fields vs) ≤ 14 * length vs + 1
+unfolding row_fields
+row_length [] = omega arith
+row_length (v ∷ vs) = omega (arith, interval_length v, row_length vs)
+
+pub detail_length : (k : ℕ) (vs : List Interval) → length vs ≡ per_row → length (line_detail k vs) ≤ 65
 unfolding line_detail
-detail_length k a b c d =
-    rw joined_length (omega (arith, code_length k, interval_length a, interval_length b, interval_length c, interval_length d))
+detail_length k vs four = rw joined_length (omega (arith, code_length k, row_length vs, four))

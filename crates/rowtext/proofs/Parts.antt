@@ -1,11 +1,12 @@
 -- Fields and rows put part by part, from the left, each part at the place behind the one before.
 -- Assumes nothing.
-use mathlib.Core.Path.{◌≡◌}
-use mathlib.Core.List.{[], ◌∷◌, ◌++◌}
+use mathlib.Core.Path.{◌≡◌, ap, sym, ◌∙◌}
+use mathlib.Core.List.{List, [], ◌∷◌, ◌++◌, append_assoc, append-nil}
 use mathlib.Core.Bool.{true, false}
-use Prim.Native.Nat.{ℕ, ◌/◌, ◌%◌, ◌≤◌}
+use Prim.Native.Nat.{ℕ, ◌+◌, ◌/◌, ◌%◌, ◌<◌, ◌≤◌}
 use native.Mathlib.Omega.{arith}
-use lib.ListN.{length}
+use lib.ListN.{length, get_or, take, drop, take-append-drop, length-append}
+use Rattle.std.proofs.lemmas.List.{take_more, drop_more, take_all}
 use Rattle.text.specs.Byte.{Bytes, ascii}
 use Rattle.text.specs.Number.{digits_of}
 use Rattle.lines.specs.Line.{LF}
@@ -16,7 +17,7 @@ use Rattle.details.specs.declared.detail.Interval.{Interval}
 use Rattle.rowtext.specs.Text.{row, time_text, stamp_text, channel_text, value_text, line_one, line_three, line_four, line_thirty, line_detail}
 use Rattle.digits.specs.Put.{Room, Put}
 use Rattle.rowtext.specs.Value.{Trims}
-use Rattle.rowtext.proofs.Texts.{interval_text, time_is, channel-load, channel_other, value-is, interval_is, one-is, three-is, four_is, thirty-is, detail_is}
+use Rattle.rowtext.proofs.Texts.{interval_text, intervals_text, texts-append, detail_front, detail_length, time_is, channel-load, channel_other, value-is, interval_is, one-is, three-is, four_is, thirty-is, detail_is}
 use Rattle.digits.proofs.Puts.{put_both}
 
 module _ (a : Bytes) (at : ℕ) where
@@ -77,9 +78,44 @@ module _ (a : Bytes) (at : ℕ) where
       let l : at ≤ length a = omega arith in
       rw thirty-is (put_both l (put_both l (put_both l (put_both l p₁ p₂) p₃) p₄) p₅)
 
-  pub detail_put : {b₁ b₂ b₃ b₄ b₅ b₆ b₇ : Bytes} {r₁ r₂ r₃ r₄ r₅ r₆ r₇ : ℕ} (k : ℕ) (u v w x : Interval) → Room a at (row (line_detail k u v w x))
-      → Put a at (ascii "100000") b₁ r₁ → Put b₁ r₁ (digits_of 2 k) b₂ r₂ → Put b₂ r₂ (interval_text u) b₃ r₃ → Put b₃ r₃ (interval_text v) b₄ r₄
-      → Put b₄ r₄ (interval_text w) b₅ r₅ → Put b₅ r₅ (interval_text x) b₆ r₆ → Put b₆ r₆ (ascii "," ++ LF ∷ []) b₇ r₇ → Put a at (row (line_detail k u v w x)) b₇ r₇
-  detail_put k u v w x h p₁ p₂ p₃ p₄ p₅ p₆ p₇ =
+  pub front-put : {b c : Bytes} {r q : ℕ} (k : ℕ) (vs : List Interval) → Room a at (row (line_detail k vs)) → Put a at (ascii "100000") b r
+      → Put b r (digits_of 2 k) c q → Put a at (detail_front k []) c q
+  front-put k vs h p₁ p₂ =
       let l : at ≤ length a = omega arith in
-      rw detail_is (put_both l (put_both l (put_both l (put_both l (put_both l (put_both l p₁ p₂) p₃) p₄) p₅) p₆) p₇)
+      rw append-nil (put_both l p₁ p₂)
+
+  -- one more
+  module _ {b : Bytes} {r : ℕ} (k i : ℕ) (vs : List Interval) (v : Interval) (more : i < length vs) (h : Room a at (row (line_detail k vs)))
+      (p : Put a at (detail_front k (take i vs)) b r) where
+    parts : intervals_text vs ≡ intervals_text (take i vs) ++ (interval_text (get_or vs i v) ++ intervals_text (drop (i + 1) vs))
+    parts =
+        ap intervals_text (sym (take-append-drop i vs))
+        ∙ texts-append (take i vs) (drop i vs)
+        ∙ ap (λ (ws : List Interval). intervals_text (take i vs) ++ intervals_text ws) (drop_more vs i v more)
+
+    pub interval-room : length b ≡ length a → Room b r (interval_text (get_or vs i v))
+    interval-room same =
+        let size : length (intervals_text vs) ≡ length (intervals_text (take i vs)) + (length (interval_text (get_or vs i v)) + length (intervals_text (drop (i + 1) vs))) =
+        ap length parts ∙ simp length-append in
+        omega (arith, same, simp length-append at p.behind, simp detail_length at h, size)
+
+    pub interval-put : {c : Bytes} {q : ℕ} → Put b r (interval_text (get_or vs i v)) c q → Put a at (detail_front k (take (i + 1) vs)) c q
+    interval-put n =
+        let l : at ≤ length a = omega arith in
+        let texts : intervals_text (take (i + 1) vs) ≡ intervals_text (take i vs) ++ interval_text (get_or vs i v) =
+        ap intervals_text (take_more vs i v more) ∙ texts-append (take i vs) _ ∙ ap (λ (s : Bytes). intervals_text (take i vs) ++ s) (append-nil (interval_text (get_or vs i v))) in
+        rw (texts, ← append_assoc (ascii "100000" ++ digits_of 2 k) (intervals_text (take i vs)) (interval_text (get_or vs i v))) (put_both l p n)
+
+  -- all of them
+  module _ {b : Bytes} {r : ℕ} (k i : ℕ) (vs : List Interval) (all : length vs ≤ i) (h : Room a at (row (line_detail k vs)))
+      (p : Put a at (detail_front k (take i vs)) b r) where
+    whole : Put a at (detail_front k vs) b r
+    whole = rw (take_all i vs all) at p
+
+    pub last-room : length b ≡ length a → Room b r (ascii "," ++ LF ∷ [])
+    last-room same = omega (arith, same, simp length-append at whole.behind, simp detail_length at h)
+
+    pub detail_put : {c : Bytes} {q : ℕ} → Put b r (ascii "," ++ LF ∷ []) c q → Put a at (row (line_detail k vs)) c q
+    detail_put n =
+        let l : at ≤ length a = omega arith in
+        rw detail_is (put_both l whole n)

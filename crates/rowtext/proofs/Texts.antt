@@ -14,8 +14,9 @@ use Rattle.lines.specs.Line.{LF}
 use Rattle.headers.specs.Time.{date_size, clock_size, day_stop}
 use Rattle.headers.specs.declared.time.Stamp.{Stamp}
 use Rattle.details.specs.Value.{point, part_digits, per_kwh}
+use Rattle.details.specs.Detail.{detail_code}
 use Rattle.details.specs.declared.detail.Interval.{Interval}
-use Rattle.rowtext.specs.Text.{row, with_commas, time_text, stamp_text, channel_text, value_text, status_text, interval_fields, line_one, line_three, line_four, line_thirty, line_detail}
+use Rattle.rowtext.specs.Text.{row, with_commas, time_text, stamp_text, channel_text, value_text, status_text, interval_fields, row_fields, line_one, line_three, line_four, line_thirty, line_detail}
 use Rattle.rowtext.specs.Value.{Trims}
 
 -- the interval's fields with the comma before each
@@ -110,28 +111,44 @@ interval_on v g gs = ap (λ (s : Bytes). comma ∷ s) (go (value_text v.wh) (sta
     go : (x y t : Bytes) → x ++ (comma ∷ (y ++ (comma ∷ t))) ≡ x ++ (comma ∷ (y ++ (comma ∷ []))) ++ t
     go x y t = simp append_assoc
 
-detail_parts : (x n a b c d y t : Bytes) → x ++ n ++ (a ++ (b ++ (c ++ (d ++ y)))) ++ t ≡ x ++ n ++ a ++ b ++ c ++ d ++ (y ++ t)
-detail_parts x n a b c d y t = simp append_assoc
+-- the intervals of a row, one behind the other
+abbrev pub intervals_text : List Interval → Bytes
+intervals_text [] = []
+intervals_text (v ∷ vs) = interval_text v ++ intervals_text vs
 
-module _ (k : ℕ) (a b c d : Interval) where
-  fields_are :
-      comma ∷ with_commas (interval_fields a ++ interval_fields b ++ interval_fields c ++ interval_fields d ++ [] ∷ [])
-      ≡ interval_text a ++ (interval_text b ++ (interval_text c ++ (interval_text d ++ (comma ∷ with_commas ([] ∷ [])))))
-  fields_are =
-      interval_on a _ _
-      ∙ ap (λ (s : Bytes). interval_text a ++ s) (interval_on b _ _
-      ∙ ap (λ (s : Bytes). interval_text b ++ s) (interval_on c _ _
-      ∙ ap (λ (s : Bytes). interval_text c ++ s) (interval_on d [] [])))
+pub texts-append : (vs ws : List Interval) → intervals_text (vs ++ ws) ≡ intervals_text vs ++ intervals_text ws
+texts-append [] ws = refl
+texts-append (v ∷ vs) ws = ap (λ (s : Bytes). interval_text v ++ s) (texts-append vs ws) ∙ sym (append_assoc (interval_text v) (intervals_text vs) (intervals_text ws))
 
-  pub detail_is :
-      row (line_detail k a b c d)
-      ≡ ascii "100000" ++ digits_of 2 k ++ interval_text a ++ interval_text b ++ interval_text c ++ interval_text d ++ (ascii "," ++ LF ∷ [])
-  unfolding line_detail with_commas
+fields_are : (vs : List Interval) → comma ∷ with_commas (row_fields vs) ≡ intervals_text vs ++ (comma ∷ [])
+unfolding with_commas row_fields
+fields_are [] = refl
+fields_are (v ∷ []) = interval_on v [] [] ∙ sym (append_assoc (interval_text v) [] (comma ∷ []))
+fields_are (v ∷ w ∷ ws) =
+    interval_on v (value_text w.wh) (status_text w.estimated ∷ [] ∷ row_fields ws)
+    ∙ ap (λ (s : Bytes). interval_text v ++ s) (fields_are (w ∷ ws))
+    ∙ sym (append_assoc (interval_text v) (intervals_text (w ∷ ws)) (comma ∷ []))
+
+-- a detail row as far as these intervals
+abbrev pub detail_front : ℕ → List Interval → Bytes
+detail_front k vs = ascii "100000" ++ digits_of 2 k ++ intervals_text vs
+
+detail_parts : (x n r y t : Bytes) → x ++ n ++ (r ++ y) ++ t ≡ x ++ n ++ r ++ (y ++ t)
+detail_parts x n r y t = simp append_assoc
+
+-- the code and its comma
+fields_behind : (f : Bytes) (vs : List Interval) → with_commas (f ∷ row_fields vs) ≡ f ++ (comma ∷ with_commas (row_fields vs))
+unfolding with_commas row_fields
+fields_behind f [] = refl
+fields_behind f (v ∷ vs) = refl
+
+module _ (k : ℕ) (vs : List Interval) where
+  pub detail_is : row (line_detail k vs) ≡ detail_front k vs ++ (ascii "," ++ LF ∷ [])
+  unfolding line_detail
   detail_is =
-      ap (λ (s : Bytes). ascii "100000" ++ digits_of 2 k ++ s ++ LF ∷ []) fields_are
-      ∙ detail_parts (ascii "100000") (digits_of 2 k) (interval_text a) (interval_text b) (interval_text c) (interval_text d) (ascii ",") (LF ∷ [])
+      ap (λ (s : Bytes). s ++ LF ∷ []) (fields_behind (detail_code k) vs)
+      ∙ ap (λ (s : Bytes). ascii "100000" ++ digits_of 2 k ++ s ++ LF ∷ []) (fields_are vs)
+      ∙ detail_parts (ascii "100000") (digits_of 2 k) (intervals_text vs) (ascii ",") (LF ∷ [])
 
-  pub detail_length :
-      length (row (line_detail k a b c d))
-      ≡ 8 + length (digits_of 2 k) + length (interval_text a) + length (interval_text b) + length (interval_text c) + length (interval_text d)
+  pub detail_length : length (row (line_detail k vs)) ≡ 8 + length (digits_of 2 k) + length (intervals_text vs)
   detail_length = rw detail_is (simp length-append (omega arith))

@@ -76,7 +76,11 @@ line_thirty owner =
 abbrev pub interval_fields : Interval → List Bytes
 interval_fields v = value_text v.wh ∷ status_text v.estimated ∷ [] ∷ []
 
+-- a row's fields behind its code: those of its intervals, and the last, which is empty
+unfoldable pub row_fields : List Interval → List Bytes
+row_fields [] = [] ∷ []
+row_fields (v ∷ vs) = interval_fields v ++ row_fields vs
+
 -- detail row k, from 0
-unfoldable pub line_detail : ℕ → Interval → Interval → Interval → Interval → Bytes
-line_detail k a b c d =
-    with_commas (detail_code k ∷ (interval_fields a ++ interval_fields b ++ interval_fields c ++ interval_fields d ++ [] ∷ []))
+unfoldable pub line_detail : ℕ → List Interval → Bytes
+line_detail k intervals = with_commas (detail_code k ∷ row_fields intervals)

@@ -1,11 +1,12 @@
 // The detail row: four intervals, each with its value.
 ghost use Rattle.std.specs.Prelude.{◌∷◌, ◌<◌};
+ghost use Rattle.std.specs.List.{All};
 ghost use Rattle.text.specs.Field.{comma};
 ghost use Rattle.rowtext.specs.Text.{row, with_commas, value_text, interval_fields, line_detail};
 ghost use Rattle.digits.specs.Put.{Room, Put};
 ghost use Rattle.rowtext.specs.Value.{whole_end, value_end, Trims};
 
-use details::detail::Interval;
+use details::detail::{Interval, Row};
 use digits::{put, put_number};
 
 // A value's decimals, and the watt hours of a kWh.
@@ -65,24 +66,15 @@ fn put_interval(out: &mut [u8], at: usize, interval: Interval) -> usize
 }
 
 // Detail row k, from 0.
-pub fn put_detail(
-    out: &mut [u8],
-    at: usize,
-    k: u32,
-    a: Interval,
-    b: Interval,
-    c: Interval,
-    d: Interval,
-) -> usize
-    requires wh_lt_value_end { (a.wh < value_end) × (b.wh < value_end) × (c.wh < value_end) × (d.wh < value_end) }
-    requires room { Room out.old at (row (line_detail k a b c d)) }
-    ensures { Put out.old at (row (line_detail k a b c d)) out.new result }
+pub fn put_detail(out: &mut [u8], at: usize, k: u32, intervals: &Row) -> usize
+    requires wh_lt_value_end { All (λ v. v.wh < value_end) intervals.now }
+    requires room { Room out.old at (row (line_detail k intervals.now)) }
+    ensures { Put out.old at (row (line_detail k intervals.now)) out.new result }
 {
     let mut end = put(out, at, b"100000");
     end = put_number(out, end, ROW_DIGITS, k);
-    end = put_interval(out, end, a);
-    end = put_interval(out, end, b);
-    end = put_interval(out, end, c);
-    end = put_interval(out, end, d);
+    for interval in intervals {
+        end = put_interval(out, end, *interval);
+    }
     put(out, end, b",\n")
 }

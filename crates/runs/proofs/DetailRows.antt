@@ -12,6 +12,7 @@ use lib.Dec.{eqb, ltb}
 use lib.ListN.{length, take, drop, replicate, length-drop}
 use lib.Seq.{get_or-drop}
 use borrow.Author.Tests.{eqb-true, ne_eqb, lt-ltb, le-ltb}
+use Rattle.std.proofs.Common.{Some, None}
 use Rattle.text.specs.Byte.{Bytes, starts_with}
 use Rattle.lines.specs.Line.{ended_line, opener_bytes, detail_bytes, drop_cr, kind_of}
 use Rattle.lines.specs.End.{LineAt, EmptyAt}
@@ -25,15 +26,13 @@ use Rattle.plain.specs.Rows.{Rows, goes_on, header_rows, max_details, with_row, 
 use Rattle.plain.specs.Loader.{takes_rows, settle, step_kind, step_line}
 use Rattle.plain.specs.Call.{byte_limit}
 use Rattle.plain.proofs.Seam.{starts_split}
-use Rattle.direct.specs.Direct.{DetailLine, direct_says}
-use Rattle.direct.specs.declared.Direct.{Direct}
-use Rattle.direct.specs.declared.Direct.TheVariants.{Line}
+use Rattle.direct.specs.Direct.{DetailLine}
 use Rattle.records.specs.declared.Progress.{Progress}
 use Rattle.records.specs.Answer.{rows_of, Few}
 use Rattle.records.proofs.Steps.{due_detail}
 use Rattle.units.specs.Answer.{judged_if}
 use Rattle.runs.specs.declared.rows.Taken.{Taken}
-use Rattle.runs.specs.Run.{taken_rows, with_read, RowPut, Took, DetailTaken, rows_to, RowsRan, DetailsRan}
+use Rattle.runs.specs.Run.{taken_rows, with_read, Took, DetailTook, DetailTaken, rows_to, RowsRan, DetailsRan}
 use Rattle.runs.proofs.LineMore.{empty-step, rows-begin, rows_more}
 
 -- ---- ONE LINE
@@ -59,11 +58,6 @@ detail_body s h =
     let t : (r : Bytes) × (s ≡ detail_bytes ++ r) = starts_split detail_bytes s (detail_starts s h) in
     rw t.1 (detail_ended t.0)
 
--- what the reader says where it accepts
-pub line-said : (r : Direct) (k : ℕ) (s : Bytes) (a b c d : Interval) (n : ℕ) → direct_says r k s → r ≡ Line a b c d n
-    → DetailLine k s (a ∷ b ∷ c ∷ d ∷ []) n
-line-said r k s a b c d n h e = rw e at h
-
 -- within the piece
 pub direct_within : (k : ℕ) (piece : Bytes) (at n : ℕ) (vs : List Interval) → DetailLine k (drop at piece) vs n → at + n < length piece
 direct_within k piece at n vs d = omega (arith, d.within, length-drop at piece)
@@ -81,29 +75,27 @@ module _ (reg s : Bytes) (k n : ℕ) (vs : List Interval) (d : DetailLine k s vs
   unfolding step_line step_kind rules_of
   direct_step first m = rw (detail_body (take n s) d.kind) (ap (settle first m) direct_row)
 
--- ---- A ROW THAT IS PUT
-
-pub none-put : (k : ℕ) (s : Bytes) (words : Words) → length words ≡ width → RowPut k s words 0 words
-none-put k s words h = record { sized = h; none = λ e. refl; some = λ x. absurd (omega arith) }
-
-pub row_put : (k : ℕ) (s : Bytes) (words words' : Words) (vs : List Interval) (n : ℕ) → DetailLine k s vs n → words' ≡ with_intervals words (k * per_row) vs
-    → length words' ≡ width → RowPut k s words (n + 1) words'
-row_put k s words words' vs n d e h =
-    let z : n + 1 - 1 ≡ n = omega arith in
-    record { sized = h; none = λ x. absurd (omega arith); some = λ x. (vs, rw z d, e) }
-
 -- ---- THE LINE AT A PLACE
 
 module _ (k : ℕ) (piece : Bytes) (at : ℕ) (words : Words) where
-  pub detail_gap : (size : ℕ) (t : Taken) → t ≡ taken_rows size 0 → EmptyAt piece at size → length words ≡ width → DetailTaken k piece at words t words
+  pub detail_gap : (size : ℕ) (t : Taken) → t ≡ taken_rows size 0 → EmptyAt piece at size → length words ≡ width
+      → DetailTaken k piece at words (Some t) words
   detail_gap size t is h lw =
-      rw is
-      (record { words_sized = lw; few = omega arith; none = λ z. refl; gap = λ some z. (h, refl); row = λ z. absurd (omega (arith, z)) })
+      rw is (record { words_sized = lw; taken = record { few = omega arith; gap = λ z. (h, refl); row = λ z. absurd (omega (arith, z)) } })
 
-  pub detail_row_lem : (size : ℕ) (words' : Words) → RowPut k (drop at piece) words size words'
-      → DetailTaken k piece at words (record { size = size; rows = 1 }) words'
-  detail_row_lem size words' h =
-      record { words_sized = h.sized; few = omega arith; none = h.none; gap = λ some z. absurd (omega (arith, z)); row = λ z. h }
+  pub detail_put : (vs : List Interval) (n : ℕ) (words' : Words) → DetailLine k (drop at piece) vs n → words' ≡ with_intervals words (k * per_row) vs
+      → length words' ≡ width → DetailTaken k piece at words (Some (record { size = n + 1; rows = 1 })) words'
+  detail_put vs n words' d e lw =
+      let z : n + 1 - 1 ≡ n = omega arith in
+      record {
+        words_sized = lw;
+        taken =
+            record {
+              few = omega arith;
+              gap = λ z. absurd (omega (arith, z));
+              row = λ one. record { some = omega arith; intervals = vs; line = rw z d; put = e };
+            };
+      }
 
 -- the checks follow the last row, and a further one is due behind any other
 judged-row : (b : Bool) (reg : Bytes) (first n : ℕ) (rows : Rows) → settle first n (cond b (checked reg rows) (goes_on rows)) ≡ judged_if b reg n (takes_rows first rows)
@@ -112,13 +104,13 @@ judged-row true reg first n rows = refl
 judged-row false reg first n rows = refl
 
 module _ (k : ℕ) (piece : Bytes) (at : ℕ) (words : Words) (p : Progress) (small : k < max_details) (more : k < p.due) (is : p.read ≡ header_rows + k)
-    (t : Taken) (words' : Words) (D : DetailTaken k piece at words t words') (some : 0 < t.size) (sender : Bytes) where
+    (t : Taken) (words' : Words) (D : DetailTook k piece at words t words') (sender : Bytes) where
   abbrev TakesIt : Type 0
   TakesIt = Took (eqb (k + t.rows) p.due) p piece at sender words t sender words'
 
   took-gap : t.rows ≡ 0 → TakesIt
   took-gap z =
-      let h = D.gap some z in
+      let h = D.gap z in
       let n : p.read + 0 ≡ p.read = omega arith in
       let j : k + 0 ≡ k = omega arith in
       record {
@@ -130,22 +122,22 @@ module _ (k : ℕ) (piece : Bytes) (at : ℕ) (words : Words) (p : Progress) (sm
 
   took-row : t.rows ≡ 1 → TakesIt
   took-row z =
-      let h = (D.row z).some some in
+      let h = D.row z in
       let size : ℕ = t.size - 1 in
       let c : at + size - at ≡ size = omega arith in
-      let past : at + t.size ≤ length piece = omega (arith, direct_within k piece at size h.0 h.1, some) in
+      let past : at + t.size ≤ length piece = omega (arith, direct_within k piece at size h.intervals h.line, h.some) in
       record {
         line =
             record {
-              some = some;
+              some = h.some;
               within = past;
-              ends = sym (get_or-drop at piece size 0) ∙ h.1.ends;
-              clean = rw c h.1.clean;
+              ends = sym (get_or-drop at piece size 0) ∙ h.line.ends;
+              clean = rw c h.line.clean;
             };
         step = λ reg id first m.
             rw (c, z, add-one k, add-one p.read)
-            (direct_step reg (drop at piece) k size h.0 h.1 (rows_of p id sender words) (omega arith) (omega arith) small first m
-            ∙ unfold with_row after_detail in rw (← h.2) (judged-row (eqb (suc k) p.due) reg first m _));
+            (direct_step reg (drop at piece) k size h.intervals h.line (rows_of p id sender words) (omega arith) (omega arith) small first m
+            ∙ unfold with_row after_detail in rw (← h.put) (judged-row (eqb (suc k) p.due) reg first m _));
       }
 
   pub detail_took : TakesIt
@@ -198,23 +190,23 @@ module _ (p : Progress) (lines : ℕ) (piece : Bytes) (at : ℕ) (words₀ : Wor
     pub details_fit : n + (length piece - e) ≤ byte_limit
     details_fit = (inv any_sender refl).fits
 
-    module _ (more : k < p.due) (t : Taken) (words' : Words) (D : DetailTaken k piece e words t words') where
+    module _ (more : k < p.due) (words' : Words) where
       inv_on : (sender : Bytes) → length sender ≡ owner_size → RowsRan p lines piece at sender words₀ (rows_to p (header_rows + k) n e false) sender words
       inv_on sender ls = rw (not_all from k p.due more) at (inv sender ls)
 
       -- one for the plain way
-      pub details_stop : t.size ≡ 0 → DetailsRan p lines piece at words₀ (rows_to p (header_rows + k) n e false) words'
-      details_stop z sender ls = rw (D.none z) (inv_on sender ls)
+      pub details_stop : DetailTaken k piece e words None words' → DetailsRan p lines piece at words₀ (rows_to p (header_rows + k) n e false) words'
+      details_stop D sender ls = rw D.taken (inv_on sender ls)
 
-      module _ (some : t.size ≡ 0 → ⊥) (small : k < max_details) where
+      module _ (t : Taken) (D : DetailTaken k piece e words (Some t) words') (small : k < max_details) where
         took : (sender : Bytes) → Took (eqb (k + t.rows) p.due) (with_read p (header_rows + k)) piece e sender words t sender words'
-        took sender = detail_took k piece e words (with_read p (header_rows + k)) small more refl t words' D (omega (arith, some)) sender
+        took sender = detail_took k piece e words (with_read p (header_rows + k)) small more refl t words' D.taken sender
 
-        pub details-line : LineAt piece e t.size
-        details-line = (took any_sender).line
+        pub details_line : LineAt piece e t.size
+        details_line = (took any_sender).line
 
         pub details_again : from ≤ k → DetailsTo words' (k + t.rows) (n + 1) (e + t.size)
         details_again h sender ls =
             let c : header_rows + (k + t.rows) ≡ header_rows + k + t.rows = omega arith in
             rw (c, ← all_same from k p.due t.rows h more)
-            (rows_more p lines piece at sender words₀ (header_rows + k) n e sender words (inv_on sender ls) (eqb (k + t.rows) p.due) t sender words' (omega (arith, D.few)) ls D.words_sized (took sender))
+            (rows_more p lines piece at sender words₀ (header_rows + k) n e sender words (inv_on sender ls) (eqb (k + t.rows) p.due) t sender words' (omega (arith, D.taken.few)) ls D.words_sized (took sender))

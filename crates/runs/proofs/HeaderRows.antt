@@ -7,6 +7,7 @@ use Prim.Native.Nat.{ℕ, zero, suc, ◌+◌, ◌-◌, ◌<◌}
 use native.Mathlib.Numerals.{add-one}
 use native.Mathlib.Omega.{arith}
 use lib.ListN.{length, take, drop, take-append-drop}
+use Rattle.std.proofs.Common.{Some, None}
 use Rattle.text.specs.Byte.{Bytes, ascii, equals, starts_with}
 use Rattle.text.specs.Field.{cut, first_field}
 use Rattle.text.proofs.Truth.{apart}
@@ -35,7 +36,7 @@ use Rattle.records.specs.declared.RowRead.TheVariants.{Refused, GoesOn, Complete
 use Rattle.records.specs.Answer.{rows_of, row_says, unless_on, one_more}
 use Rattle.records.proofs.Steps.{due-two, due-three, due-four, due-thirty}
 use Rattle.runs.specs.declared.rows.Taken.{Taken}
-use Rattle.runs.specs.Run.{taken_rows, with_read, HeaderRead, Took, HeaderTaken, rows_to, RowsRan}
+use Rattle.runs.specs.Run.{taken_rows, with_read, HeaderRead, HeaderTaken, rows_to, RowsRan}
 use Rattle.runs.proofs.LineMore.{line_at, empty-step, rows_more}
 
 -- ---- THE KIND OF ITS LINE
@@ -134,63 +135,49 @@ module _ (p : Progress) (raw body : Bytes) (cr : Bool) (sender : Bytes) (words :
 -- ---- THE LINE AT A PLACE
 
 module _ (p : Progress) (piece : Bytes) (at : ℕ) (sender : Bytes) (words : Words) (few : p.read < header_rows) where
-  pub no_header : (sender' : Bytes) (words' : Words) → length sender' ≡ owner_size → length words' ≡ width → sender' ≡ sender → words' ≡ words
-      → HeaderTaken p piece at sender words (record { size = 0; rows = 0 }) sender' words'
-  no_header sender' words' ls lw es ew =
-      record { sender_sized = ls; words_sized = lw; few = omega arith; none = λ z. (es, ew); some = λ z. absurd (omega (arith, z)) }
-
   pub header_gap : (size : ℕ) (t : Taken) → t ≡ taken_rows size 0 → EmptyAt piece at size → length sender ≡ owner_size → length words ≡ width
-      → HeaderTaken p piece at sender words t sender words
+      → HeaderTaken p piece at sender words (Some t) sender words
   header_gap size t is h ls lw =
       let z : p.read + 0 ≡ p.read = omega arith in
       rw is
       (record {
         sender_sized = ls;
         words_sized = lw;
-        few = omega arith;
-        none = λ z. (refl, refl);
-        some = λ some.
-            record {
-              line = h.line;
-              step = λ reg id first n. empty-step (rules_of reg) piece at size h n (takes_rows first (rows_of p id sender words)) ∙ rw z;
-            };
+        taken = (
+          omega arith,
+          record {
+            line = h.line;
+            step = λ reg id first n. empty-step (rules_of reg) piece at size h n (takes_rows first (rows_of p id sender words)) ∙ rw z;
+          },
+        );
       })
 
   pub header_took : (end : ℕ) → LineEnd piece at end → end < length piece → (r : Bool) (sender' : Bytes) (words' : Words)
       → HeaderRead p (between at end piece) r sender words sender' words' → r ≡ true
-      → HeaderTaken p piece at sender words (record { size = end - at + 1; rows = 1 }) sender' words'
+      → HeaderTaken p piece at sender words (Some (record { size = end - at + 1; rows = 1 })) sender' words'
   header_took end E inside r sender' words' h t =
       let e : at + (end - at + 1 - 1) ≡ end = omega (arith, E.none.behind) in
       record {
         sender_sized = h.sender_sized;
         words_sized = h.words_sized;
-        few = omega arith;
-        none = λ z. absurd (omega (arith, z));
-        some = λ some.
-            record {
-              line = line_at piece at end E inside;
-              step = λ reg id first n. rw (e, add-one p.read) (h.passes t reg id first n);
-            };
+        taken = (
+          omega arith,
+          record {
+            line = line_at piece at end E inside;
+            step = λ reg id first n. rw (e, add-one p.read) (h.passes t reg id first n);
+          },
+        );
       }
-
-  pub header_left : (r : Bool) (raw sender' : Bytes) (words' : Words) → HeaderRead p raw r sender words sender' words' → r ≡ false
-      → HeaderTaken p piece at sender words (record { size = 0; rows = 0 }) sender' words'
-  header_left r raw sender' words' h t = no_header sender' words' h.sender_sized h.words_sized (h.stays t).0 (h.stays t).1
 
 -- ---- HEADER ROWS
 
 module _ (p : Progress) (lines : ℕ) (piece : Bytes) (at : ℕ) (sender₀ : Bytes) (words₀ : Words) (k n e : ℕ) (sender : Bytes) (words : Words)
-    (inv : RowsRan p lines piece at sender₀ words₀ (rows_to p k n e false) sender words) (q : Progress) (is : q ≡ with_read p k) (t : Taken)
-    (sender' : Bytes) (words' : Words) (taken : HeaderTaken q piece e sender words t sender' words') where
-  pub headers_stop : t.size ≡ 0 → RowsRan p lines piece at sender₀ words₀ (rows_to p k n e false) sender' words'
-  headers_stop z =
-      let same = taken.none z in
-      rw (same.0, same.1) inv
+    (inv : RowsRan p lines piece at sender₀ words₀ (rows_to p k n e false) sender words) (q : Progress) (is : q ≡ with_read p k) (sender' : Bytes)
+    (words' : Words) where
+  pub headers_stop : HeaderTaken q piece e sender words None sender' words' → RowsRan p lines piece at sender₀ words₀ (rows_to p k n e false) sender' words'
+  headers_stop h = rw (h.taken.0, h.taken.1) inv
 
-  module _ (some : t.size ≡ 0 → ⊥) where
-    pub headers_took : Took false (with_read p k) piece e sender words t sender' words'
-    headers_took = rw is at (taken.some (omega (arith, some)))
-
-    pub headers_again : k < header_rows → RowsRan p lines piece at sender₀ words₀ (rows_to p (k + t.rows) (n + 1) (e + t.size) false) sender' words'
-    headers_again few =
-        rows_more p lines piece at sender₀ words₀ k n e sender words inv false t sender' words' (omega (arith, taken.few)) taken.sender_sized taken.words_sized headers_took
+  pub headers_again : (t : Taken) → HeaderTaken q piece e sender words (Some t) sender' words' → k < header_rows
+      → RowsRan p lines piece at sender₀ words₀ (rows_to p (k + t.rows) (n + 1) (e + t.size) false) sender' words'
+  headers_again t h few =
+      rows_more p lines piece at sender₀ words₀ k n e sender words inv false t sender' words' (omega (arith, h.taken.0)) h.sender_sized h.words_sized (rw is at h.taken.1)

@@ -1,7 +1,7 @@
 -- Runs of lines: what the rows of a record, or the lines that a unit skips, do to a scan. It says only how a load is quick; what a caller must believe is
 -- the plain loader's.
 -- Assumes nothing.
-use Rattle.std.specs.Prelude.{◌≡◌, List, [], Bool, true, false, ℕ, ◌+◌, ◌-◌, ◌*◌, ◌<◌, ◌≤◌, length, take, drop}
+use Rattle.std.specs.Prelude.{◌≡◌, List, [], Bool, true, false, ℕ, ◌+◌, ◌-◌, ◌*◌, ◌<◌, ◌≤◌, length, take, drop, Option, MatchOption}
 use Rattle.text.specs.Byte.{Bytes}
 use Rattle.lines.specs.Line.{ended_line}
 use Rattle.lines.specs.End.{between, LineAt, EmptyAt}
@@ -45,11 +45,12 @@ pub record HeaderRead (p : Progress) (raw : Bytes) (r : Bool) (sender : Bytes) (
       ≡ record { unit = takes_rows first (rows_of (one_more p) id sender' words'); events = [] }
   pub stays : r ≡ false → (sender' ≡ sender) × (words' ≡ words)
 
--- a detail row at the front of the bytes, r of them with its LF, is read and its intervals are put; where r is 0, nothing is
-pub record RowPut (k : ℕ) (s : Bytes) (words : Words) (r : ℕ) (words' : Words) : Type 0 where
-  pub sized : length words' ≡ width
-  pub none : r ≡ 0 → words' ≡ words
-  pub some : 0 < r → (vs : List Interval) × DetailLine k s vs (r - 1) × (words' ≡ with_intervals words (k * per_row) vs)
+-- a detail row at the front of the bytes, which has so many with its LF, is read and its intervals are put
+pub record RowPut (k : ℕ) (s : Bytes) (words : Words) (size : ℕ) (words' : Words) : Type 0 where
+  pub some : 0 < size
+  pub intervals : List Interval
+  pub line : DetailLine k s intervals (size - 1)
+  pub put : words' ≡ with_intervals words (k * per_row) intervals
 
 -- the line at a place was taken: it is a row of the record, the day's last if `all` says so, or an empty line
 pub record Took (all : Bool) (p : Progress) (piece : Bytes) (at : ℕ) (sender : Bytes) (words : Words) (r : Taken) (sender' : Bytes) (words' : Words) : Type 0 where
@@ -59,20 +60,21 @@ pub record Took (all : Bool) (p : Progress) (piece : Bytes) (at : ℕ) (sender :
       ≡ judged_if all reg n (takes_rows first (rows_of (with_read p (p.read + r.rows)) id sender' words'))
 
 -- a header row, or an empty line; or nothing
-pub record HeaderTaken (p : Progress) (piece : Bytes) (at : ℕ) (sender : Bytes) (words : Words) (r : Taken) (sender' : Bytes) (words' : Words) : Type 0 where
+pub record HeaderTaken (p : Progress) (piece : Bytes) (at : ℕ) (sender : Bytes) (words : Words) (r : Option Taken) (sender' : Bytes) (words' : Words) : Type 0 where
   pub sender_sized : length sender' ≡ owner_size
   pub words_sized : length words' ≡ width
-  pub few : r.rows ≤ 1
-  pub none : r.size ≡ 0 → (sender' ≡ sender) × (words' ≡ words)
-  pub some : 0 < r.size → Took false p piece at sender words r sender' words'
+  pub taken : MatchOption r ((sender' ≡ sender) × (words' ≡ words)) (λ t. (t.rows ≤ 1) × Took false p piece at sender words t sender' words')
+
+-- a line that is no row is an empty one, and a line that is one is detail row k
+pub record DetailTook (k : ℕ) (piece : Bytes) (at : ℕ) (words : Words) (t : Taken) (words' : Words) : Type 0 where
+  pub few : t.rows ≤ 1
+  pub gap : t.rows ≡ 0 → EmptyAt piece at t.size × (words' ≡ words)
+  pub row : t.rows ≡ 1 → RowPut k (drop at piece) words t.size words'
 
 -- detail row k, or an empty line; or nothing
-pub record DetailTaken (k : ℕ) (piece : Bytes) (at : ℕ) (words : Words) (r : Taken) (words' : Words) : Type 0 where
+pub record DetailTaken (k : ℕ) (piece : Bytes) (at : ℕ) (words : Words) (r : Option Taken) (words' : Words) : Type 0 where
   pub words_sized : length words' ≡ width
-  pub few : r.rows ≤ 1
-  pub none : r.size ≡ 0 → words' ≡ words
-  pub gap : 0 < r.size → r.rows ≡ 0 → EmptyAt piece at r.size × (words' ≡ words)
-  pub row : r.rows ≡ 1 → RowPut k (drop at piece) words r.size words'
+  pub taken : MatchOption r (words' ≡ words) (λ t. DetailTook k piece at words t words')
 
 -- ---- LINES OF A RECORD
 

@@ -8,8 +8,7 @@ ghost use Rattle.plain.specs.Call.{byte_limit};
 ghost use Rattle.records.specs.Answer.{Few};
 ghost use Rattle.runs.specs.Run.{taken_rows, with_read, rows_to, HeaderRead, HeaderTaken, RowPut, DetailTaken, RowsRan, DetailsRan};
 
-use direct::any::read_any;
-use direct::{Direct, read_direct};
+use direct::read_direct;
 use lines::end::{empty_line, line_end};
 use lines::line::{ends_with_cr, without_cr};
 use records::{HEADER_ROWS, MAX_DETAILS, Progress, RowRead, put_intervals, row_header};
@@ -23,7 +22,7 @@ pub struct RowsRead {
     pub all: bool,
 }
 
-// A line that was taken: how many bytes it has, its LF included, and how many rows it is, none for an empty line. Size 0, where it is for the plain way.
+// A line that was taken: how many bytes it has, its LF included, and how many rows it is, none for an empty line.
 #[derive(Clone, Copy)]
 pub struct Taken {
     pub size: usize,
@@ -77,26 +76,31 @@ fn header_row(p: Progress, raw: &[u8], sender: &mut [u8], words: &mut [u32]) -> 
     }
 }
 
-// The line at a place: the header row that is due, or an empty line.
-fn take_header(p: Progress, piece: &[u8], at: usize, sender: &mut [u8], words: &mut [u32]) -> Taken
+// The line at a place: the header row that is due, or an empty line; none, if it is for the plain way.
+fn take_header(
+    p: Progress,
+    piece: &[u8],
+    at: usize,
+    sender: &mut [u8],
+    words: &mut [u32],
+) -> Option<Taken>
     requires { (p.read < header_rows) × (at ≤ length piece.now) × (length sender.old ≡ owner_size) × (length words.old ≡ width) }
     ensures { HeaderTaken p piece.now at sender.old words.old result sender.new words.new }
 {
-    let gap = empty_line(piece, at);
-    if 0 < gap {
-        return empty(gap);
+    if let Some(size) = empty_line(piece, at) {
+        return Some(empty(size));
     }
     let end = line_end(piece, at);
     if end == piece.len() {
-        return Taken { size: 0, rows: 0 };
+        return None;
     }
     if header_row(p, &piece[at..end], sender, words) {
-        return Taken {
+        return Some(Taken {
             size: end - at + 1,
             rows: 1,
-        };
+        });
     }
-    Taken { size: 0, rows: 0 }
+    None
 }
 
 // Header rows from the place where a line begins, as many as stand whole in the piece and pass.
@@ -115,10 +119,9 @@ fn read_headers(
     let mut n = lines;
     let mut e = at;
     while k < HEADER_ROWS {
-        let t = take_header(with_read(p, k), piece, e, sender, words);
-        if t.size == 0 {
+        let Some(t) = take_header(with_read(p, k), piece, e, sender, words) else {
             return rows_read(p, k, n, e, false);
-        }
+        };
         e += t.size;
         n += 1;
         k += t.rows;
@@ -128,44 +131,20 @@ fn read_headers(
 
 // ---- DETAIL ROWS
 
-// Detail row k with values of any length, at a place: how many bytes it has, its LF included; 0 where the plain reader has to decide.
-fn put_any(words: &mut [u32], piece: &[u8], at: usize, k: u32) -> usize
-    requires { (k < max_details) × (length words.old ≡ width) }
-    ensures { RowPut k (drop at piece.now) words.old result words.new }
-{
-    let Direct::Line(a, b, c, d, len) = read_any(piece, at, k) else {
-        return 0;
-    };
-    put_intervals(words, k, a, b, c, d);
-    len + 1
-}
-
-// A line that the common rows' reader does not take: an empty one, or a detail row with longer values.
-fn take_other(words: &mut [u32], piece: &[u8], at: usize, k: u32) -> Taken
+// The line at a place: detail row k, or an empty line; none, if it is for the plain way.
+fn take_detail(words: &mut [u32], piece: &[u8], at: usize, k: u32) -> Option<Taken>
     requires { (k < max_details) × (length words.old ≡ width) }
     ensures { DetailTaken k piece.now at words.old result words.new }
 {
-    let gap = empty_line(piece, at);
-    if 0 < gap {
-        return empty(gap);
-    }
-    let size = put_any(words, piece, at, k);
-    Taken { size, rows: 1 }
-}
-
-// The line at a place: detail row k, or an empty line.
-fn take_detail(words: &mut [u32], piece: &[u8], at: usize, k: u32) -> Taken
-    requires { (k < max_details) × (length words.old ≡ width) }
-    ensures { DetailTaken k piece.now at words.old result words.new }
-{
-    let Direct::Line(a, b, c, d, len) = read_direct(piece, at, k) else {
-        return take_other(words, piece, at, k);
+    let Some(line) = read_direct(piece, at, k) else {
+        let size = empty_line(piece, at)?;
+        return Some(empty(size));
     };
-    put_intervals(words, k, a, b, c, d);
-    Taken {
-        size: len + 1,
+    put_intervals(words, k, &line.row);
+    Some(Taken {
+        size: line.size + 1,
         rows: 1,
-    }
+    })
 }
 
 // How many detail rows are read: as many as the day has, and no more than a cell has room for.
@@ -189,10 +168,9 @@ fn read_details(p: Progress, lines: u32, piece: &[u8], at: usize, words: &mut [u
     let mut n = lines;
     let mut e = at;
     while k < stop {
-        let t = take_detail(words, piece, e, k);
-        if t.size == 0 {
+        let Some(t) = take_detail(words, piece, e, k) else {
             return rows_read(p, HEADER_ROWS + k, n, e, false);
-        }
+        };
         e += t.size;
         n += 1;
         k += t.rows;

@@ -26,7 +26,9 @@ use Rattle.digits.specs.Put.{Room, Put, put_at}
 use Rattle.rowtext.specs.Value.{value_end}
 use Rattle.digits.proofs.Puts.{put_both}
 use Rattle.rowtext.proofs.Lengths.{one-length, three-length, four-length, thirty-length, detail_length}
-use Rattle.writer.specs.Record.{detail_line, detail_lines, record_lines, record_text, record_limit}
+use Rattle.writer.specs.Record.{row_of, detail_line, detail_lines, record_lines, record_text, record_limit}
+use Rattle.std.specs.List.{All}
+use Rattle.std.proofs.lemmas.List.Elements.{All-cons, All-nil}
 
 -- ---- DETAIL ROWS
 
@@ -72,11 +74,25 @@ module _ (w : Words) (wide : length w ≡ width) (values : every is_value (value
 module _ (before out : Bytes) (at end k : ℕ) (w : Words) (a b c d : Interval)
     (ea : a ≡ interval_in w (k * per_row)) (eb : b ≡ interval_in w (k * per_row + 1)) (ec : c ≡ interval_in w (k * per_row + 2)) (ed : d ≡ interval_in w (k * per_row + 3))
     (so_far : Put before at (rows (detail_lines k w)) out end) where
-  pub row_room : (n : ℕ) → k < n → length out ≡ length before → Room before at (rows (detail_lines n w)) → Room out end (row (line_detail k a b c d))
+  pub row_room : (n : ℕ) → k < n → length out ≡ length before → Room before at (rows (detail_lines n w)) → Room out end (row (line_detail k (a ∷ b ∷ c ∷ d ∷ [])))
   row_room n l same room =
       rw (ea, eb, ec, ed) (omega (arith, so_far.behind, details-size k w, details_grow n k w l, room, same))
 
-  pub row_again : {new : Bytes} {next : ℕ} → at ≤ length before → Put out end (row (line_detail k a b c d)) new next
+  pub row_fits : (n : ℕ) → k < n → n * per_row ≤ max_intervals → length w ≡ width → every is_value (values_of w) ≡ true
+      → All (λ v. v.wh < value_end) (a ∷ b ∷ c ∷ d ∷ [])
+  row_fits n l most wide values =
+      All-cons Fits a (b ∷ c ∷ d ∷ []) (fits a _ ea (omega (arith, l, most)))
+      (All-cons Fits b (c ∷ d ∷ []) (fits b _ eb (omega (arith, l, most)))
+      (All-cons Fits c (d ∷ []) (fits c _ ec (omega (arith, l, most)))
+      (All-cons Fits d [] (fits d _ ed (omega (arith, l, most))) (All-nil Fits))))
+    where
+      Fits : Interval → Type 0
+      Fits v = v.wh < value_end
+
+      fits : (v : Interval) (i : ℕ) → v ≡ interval_in w i → i < max_intervals → Fits v
+      fits v i e h = rw e (value-small w wide values i h)
+
+  pub row_again : {new : Bytes} {next : ℕ} → at ≤ length before → Put out end (row (line_detail k (a ∷ b ∷ c ∷ d ∷ []))) new next
       → Put before at (rows (detail_lines (k + 1) w)) new next
   row_again h p = rw (details-next k w) (put_both h so_far (rw (ea, eb, ec, ed) at p))
 
@@ -97,7 +113,7 @@ unfolding detail_lines rows
 details-most zero w = omega arith
 details-most (suc n) w =
     let size = rw (add-one n) at (details-size n w) in
-    omega (arith, size, details-most n w, length-append (detail_line w n) (LF ∷ []), detail_length n (interval_in w (n * per_row)) (interval_in w (n * per_row + 1)) (interval_in w (n * per_row + 2)) (interval_in w (n * per_row + 3)))
+    omega (arith, size, details-most n w, length-append (detail_line w n) (LF ∷ []), detail_length n (row_of w n) refl)
 
 -- ---- THE WHOLE RECORD
 

@@ -4,6 +4,7 @@ use Rattle.std.specs.Prelude.{List, [], ◌∷◌, ◌++◌, ℕ, zero, suc, ◌
 use Rattle.calendar.specs.Day.{date_of}
 use Rattle.text.specs.Byte.{Bytes}
 use Rattle.details.specs.Detail.{per_row}
+use Rattle.details.specs.declared.detail.Interval.{Interval}
 use Rattle.padded.specs.Padding.{unpad}
 use Rattle.registry.specs.Registry.{window_is}
 use Rattle.registry.specs.Index.{meter_at}
@@ -11,10 +12,13 @@ use Rattle.cell.specs.Layout.{Words, count_at}
 use Rattle.cell.specs.Read.{interval_in, stamp_in}
 use Rattle.rowtext.specs.Text.{rows, line_one, line_two, line_three, line_four, line_thirty, line_detail}
 
--- detail row k, from 0, of a cell
+-- the intervals of row k, from 0, of a cell, and the row
+abbrev pub row_of : Words → ℕ → List Interval
+row_of w k =
+    interval_in w (k * per_row) ∷ interval_in w (k * per_row + 1) ∷ interval_in w (k * per_row + 2) ∷ interval_in w (k * per_row + 3) ∷ []
+
 abbrev pub detail_line : Words → ℕ → Bytes
-detail_line w k =
-    line_detail k (interval_in w (k * per_row)) (interval_in w (k * per_row + 1)) (interval_in w (k * per_row + 2)) (interval_in w (k * per_row + 3))
+detail_line w k = line_detail k (row_of w k)
 
 -- the first n detail rows
 unfoldable pub detail_lines : ℕ → Words → List Bytes

@@ -58,15 +58,13 @@ fn put_details(out: &mut [u8], at: usize, words: &[u32], n: u32) -> usize
     let mut k: u32 = 0;
     while k < n {
         let i = (k * PER_ROW) as usize;
-        end = put_detail(
-            out,
-            end,
-            k,
+        let row = [
             interval_in(words, i),
             interval_in(words, i + 1),
             interval_in(words, i + 2),
             interval_in(words, i + 3),
-        );
+        ];
+        end = put_detail(out, end, k, &row);
         k += 1;
     }
     end

@@ -2,7 +2,7 @@
 -- Assumes nothing.
 use native.Mathlib.Omega.{arith}
 use borrow.Author.Rules.{rules}
-use Rattle.writer.proofs.Records.{none-put, all-put, value-small, row_room, row_again}
+use Rattle.writer.proofs.Records.{none-put, all-put, row_fits, row_room, row_again}
 use Rattle.writer.proofs.put_details.Goals as goal
 
 pub loop-k-init : goal.loop-k-init
@@ -10,12 +10,7 @@ loop-k-init c = (omega arith, search rules, none-put _ _ _)
 
 pub put_detail-end-requires : goal.put_detail-end-requires
 put_detail-end-requires c = record {
-  wh_lt_value_end = (
-    rw c.interval_in.ensures (value-small _ c.requires.words_len.0 c.requires.words_len.2 _ (omega (arith, c.loop-k-test.true, c.requires.words_len.1))),
-    rw c.interval_in-in-loop-k.ensures (value-small _ c.requires.words_len.0 c.requires.words_len.2 _ (omega (arith, c.loop-k-test.true, c.requires.words_len.1))),
-    rw c.interval_in-in-loop-k-2.ensures (value-small _ c.requires.words_len.0 c.requires.words_len.2 _ (omega (arith, c.loop-k-test.true, c.requires.words_len.1))),
-    rw c.interval_in-in-loop-k-3.ensures (value-small _ c.requires.words_len.0 c.requires.words_len.2 _ (omega (arith, c.loop-k-test.true, c.requires.words_len.1))),
-  );
+  wh_lt_value_end = row_fits _ _ _ _ _ _ _ _ _ _ c.interval_in.ensures c.interval_in-in-loop-k.ensures c.interval_in-in-loop-k-2.ensures c.interval_in-in-loop-k-3.ensures c.loop-k.invariant.2 _ c.loop-k-test.true c.requires.words_len.1 c.requires.words_len.0 c.requires.words_len.2;
   room = row_room _ _ _ _ _ _ _ _ _ _ c.interval_in.ensures c.interval_in-in-loop-k.ensures c.interval_in-in-loop-k-2.ensures c.interval_in-in-loop-k-3.ensures c.loop-k.invariant.2 _ c.loop-k-test.true c.loop-k.invariant.1 c.requires.room;
 }
 

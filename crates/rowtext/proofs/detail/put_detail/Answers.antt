@@ -2,7 +2,7 @@
 -- Assumes nothing.
 use native.Mathlib.Omega.{arith}
 use Rattle.rowtext.proofs.Texts.{detail_length}
-use Rattle.rowtext.proofs.Parts.{detail_put}
+use Rattle.rowtext.proofs.Parts.{front-put, interval-room, interval-put, last-room, detail_put}
 use Rattle.rowtext.proofs.detail.put_detail.Goals as goal
 
 pub put-end-requires : goal.put-end-requires
@@ -11,28 +11,20 @@ put-end-requires c = omega (arith, simp detail_length at c.requires.room)
 pub put_number-end-requires : goal.put_number-end-requires
 put_number-end-requires c = omega (arith, simp detail_length at c.requires.room)
 
-pub put_interval-end-requires-clause-room : goal.put_interval-end-requires-clause-room
-put_interval-end-requires-clause-room c = omega (arith, simp detail_length at c.requires.room)
+pub loop-interval-init : goal.loop-interval-init
+loop-interval-init c = front-put _ _ _ c.args.intervals.now c.requires.room c.put-end.ensures c.put_number-end.ensures
 
-pub put_interval-end-requires-2-clause-room : goal.put_interval-end-requires-2-clause-room
-put_interval-end-requires-2-clause-room c = omega (arith, simp detail_length at c.requires.room)
+pub put_interval-end-requires : goal.put_interval-end-requires
+put_interval-end-requires c = record {
+  wh_lt_value_end = c.requires.wh_lt_value_end _ _ (omega arith);
+  room = interval-room _ _ _ c.loop-interval.interval-index c.args.intervals.now _ (omega arith) c.requires.room c.loop-interval.invariant (omega arith);
+}
 
-pub put_interval-end-requires-3-clause-room : goal.put_interval-end-requires-3-clause-room
-put_interval-end-requires-3-clause-room c = omega (arith, simp detail_length at c.requires.room)
-
-pub put_interval-end-requires-4-clause-room : goal.put_interval-end-requires-4-clause-room
-put_interval-end-requires-4-clause-room c = omega (arith, simp detail_length at c.requires.room)
+pub loop-interval-preserved : goal.loop-interval-preserved
+loop-interval-preserved c = interval-put _ _ _ c.loop-interval.interval-index c.args.intervals.now _ (omega arith) c.requires.room c.loop-interval.invariant c.put_interval-end.ensures
 
 pub put-requires : goal.put-requires
-put-requires c = omega (arith, simp detail_length at c.requires.room)
+put-requires c = last-room _ _ _ c.loop-interval.interval-index c.args.intervals.now (omega arith) c.requires.room c.loop-interval.invariant (omega arith)
 
 pub returns : goal.returns
-returns c =
-    detail_put _ _ _ _ _ _ _ c.requires.room
-    c.put-end.ensures
-    c.put_number-end.ensures
-    c.put_interval-end.ensures
-    c.put_interval-end-2.ensures
-    c.put_interval-end-3.ensures
-    c.put_interval-end-4.ensures
-    c.put.ensures
+returns c = detail_put _ _ _ c.loop-interval.interval-index c.args.intervals.now (omega arith) c.requires.room c.loop-interval.invariant c.put.ensures
