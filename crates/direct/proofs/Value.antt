@@ -15,9 +15,6 @@ use Rattle.text.proofs.Decimal.{run_take, run_drop, run_digits}
 use Rattle.report.specs.Outcome.{passed, refused}
 use Rattle.report.specs.Verdict.{negative, no_value}
 use Rattle.details.specs.Value.{point, whole_digits, part_digits, is_negative, watt_hours, with_point, value_parts, value_of}
-use Rattle.details.specs.Answer.{value_says as plain_says}
-use Rattle.details.specs.declared.value.Value.{Value as Plain}
-use Rattle.details.specs.declared.value.Value.TheVariants.{WattHours as PlainHours}
 use Rattle.direct.specs.Guess.{
   bytes_of,
   is_numeral,
@@ -214,14 +211,14 @@ value-plain f n h =
     plus false g = g
 
 -- f is what stands before the comma, and v the plain reader's answer
-pub long-read : (t : Bytes) (at wh : ℕ) (f : Bytes) (v : Plain) → f ≡ first_field (take (at + value_size - at) (drop at t)) → plain_says v ≡ value_of f → v ≡ PlainHours wh
+pub long-read : (t : Bytes) (at wh : ℕ) (f : Bytes) → f ≡ first_field (take (at + value_size - at) (drop at t)) → passed wh ≡ value_of f
     → BeginsValue (drop at t) wh (length f)
-long-read t at wh f v e says ev =
+long-read t at wh f e says =
     let m : ℕ = at + value_size - at in
     let s : Bytes = drop at t in
     let inside : length f ≤ m = omega (arith, ap length e, field-within (take m s), length-take m s) in
     let text : take (length f) s ≡ f = sym (take-take (length f) m s inside) ∙ rw e (sym (field_take (take m s))) in
-    let worth : value_of f ≡ passed wh = sym says ∙ rw ev in
+    let worth : value_of f ≡ passed wh = sym says in
     record { short = omega arith; plain = rw text (value-plain f wh worth); value = rw text worth }
 
 -- what stands behind a value, as a word
@@ -241,11 +238,10 @@ pub short-done : (t : Bytes) (at w n : ℕ) → BeginsDigits (drop at t) w n →
     → (wh : ℕ) → wh ≡ tens_from 0 (bytes_of 8 w) → HasTriple t at (record { wh = wh; estimated = m }) (at + n + tail_size)
 short-done t at w n h m behind wh e = record { n = n; value = rw e h.value; behind = behind; ends = refl }
 
-module _ (t : Bytes) (at wh : ℕ) (f : Bytes) (v : Plain) (e : f ≡ first_field (take (at + value_size - at) (drop at t))) (says : plain_says v ≡ value_of f)
-    (ev : v ≡ PlainHours wh) where
+module _ (t : Bytes) (at wh : ℕ) (f : Bytes) (e : f ≡ first_field (take (at + value_size - at) (drop at t))) (says : passed wh ≡ value_of f) where
   pub long-short : length f ≤ value_size
-  long-short = (long-read t at wh f v e says ev).short
+  long-short = (long-read t at wh f e says).short
 
   pub long-done : (m : Bool) → take tail_size (drop (at + length f) t) ≡ tail (status_byte m)
       → HasTriple t at (record { wh = wh; estimated = m }) (at + length f + tail_size)
-  long-done m behind = record { n = length f; value = long-read t at wh f v e says ev; behind = behind; ends = refl }
+  long-done m behind = record { n = length f; value = long-read t at wh f e says; behind = behind; ends = refl }

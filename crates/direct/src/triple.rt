@@ -6,7 +6,7 @@ use crate::VALUE;
 use crate::guess::read_digits;
 use crate::word::{four, number};
 use details::detail::Interval;
-use details::value::{Value, read_value};
+use details::value::read_value;
 use text::fields::field;
 
 // Behind a value: comma, status, comma, the empty field, comma; and these as words, ",A,," and ",E,,".
@@ -50,7 +50,7 @@ fn long_triple(t: &[u8], at: usize) -> Option<(Interval, usize)>
 {
     let end = at + VALUE;
     let f = field(&t[at..end]);
-    let Value::WattHours(wh) = read_value(f) else {
+    let Ok(wh) = read_value(f) else {
         return None;
     };
     let behind = at + f.len();

@@ -17,32 +17,19 @@ use Rattle.text.specs.Byte.{Bytes, is_digit, is_alnum, every}
 use Rattle.text.specs.Identifier.{is_name, esi_id_size, is_esi_id, duns_size, is_duns}
 use Rattle.text.proofs.Truth.{and_left, and_right, or_right}
 use Rattle.lines.specs.Line.{Line}
-use Rattle.lines.specs.Answer.{line_of, text_at, checked_says}
-use Rattle.report.specs.Outcome.{Outcome, passed}
+use Rattle.lines.specs.Answer.{line_of}
+use Rattle.report.specs.Outcome.{Outcome, passed, refused}
 use Rattle.report.specs.Verdict.{wrong_code}
-use Rattle.lines.specs.declared.row.Place.{Place}
-use Rattle.lines.specs.declared.row.Checked.{Checked}
-use Rattle.lines.specs.declared.row.Checked.TheVariants.{Passed as CheckedPassed, Refused as CheckedRefused}
-use Rattle.headers.specs.Answer.{one_says, four_says, thirty_says}
 use Rattle.headers.specs.One.{row_one}
 use Rattle.headers.specs.Two.{row_two}
 use Rattle.headers.specs.Three.{row_three}
 use Rattle.headers.specs.Four.{row_four}
 use Rattle.headers.specs.Thirty.{row_thirty}
 use Rattle.headers.specs.declared.one.Channel.{Channel}
-use Rattle.headers.specs.declared.one.One.{One}
-use Rattle.headers.specs.declared.one.One.TheVariants.{Passed as OnePassed, Refused as OneRefused}
 use Rattle.headers.specs.declared.time.Stamp.{Stamp}
-use Rattle.headers.specs.declared.four.Four.{Four}
-use Rattle.headers.specs.declared.four.Four.TheVariants.{Passed as FourPassed, Refused as FourRefused}
-use Rattle.headers.specs.declared.thirty.Thirty.{Thirty}
-use Rattle.headers.specs.declared.thirty.Thirty.TheVariants.{Passed as ThirtyPassed, Refused as ThirtyRefused}
 use Rattle.headers.proofs.Passed.{one-passed, thirty-passed as sender-duns}
-use Rattle.details.specs.Answer.{detail_says}
 use Rattle.details.specs.Detail.{per_row, row_detail}
 use Rattle.details.specs.declared.detail.Interval.{Interval}
-use Rattle.details.specs.declared.detail.Detail.{Detail}
-use Rattle.details.specs.declared.detail.Detail.TheVariants.{Passed as DetailPassed, Refused as DetailRefused}
 use Rattle.padded.specs.Padding.{pad}
 use Rattle.padded.proofs.Put.{pad-length}
 use Rattle.registry.specs.Entry.{owner_size}
@@ -77,31 +64,26 @@ begun-row text id sender id' sender' empty words' channel day count li ls fits r
   },
 )
 
-module _ (line : Bytes) (cr : Bool) (r : One) (e : one_says r line ≡ row_one (line_of line cr)) where
-  pub one-refused : (v : ℕ) → r ≡ OneRefused v → refused_with v 0 0 ≡ first_row (line_of line cr)
+pub one-refused : (l : Line) (v : ℕ) → refused v ≡ row_one l → refused_with v 0 0 ≡ first_row l
+unfolding first_row
+one-refused l v e = rw (← e)
+
+module _ (l : Line) (text : Bytes) (channel : Channel) (day : ℕ) (e : passed (record { esi_id = text; channel = channel; day = day }) ≡ row_one l) where
+  pub one-begun : (row : Row) → row ≡ goes_on (begins (record { esi_id = text; channel = channel; day = day })) → row ≡ first_row l
   unfolding first_row
-  one-refused v h = rw (← e, h)
+  one-begun row b = b ∙ rw (← e)
 
-  module _ (at : Place) (channel : Channel) (day : ℕ) (h : r ≡ OnePassed at channel day) (text : Bytes) (t : text ≡ text_at at line) where
-    pub one-said : row_one (line_of line cr) ≡ passed (record { esi_id = text; channel = channel; day = day })
-    one-said = sym e ∙ rw (h, t)
+  pub one-real : is_date day ≡ true
+  one-real = (one-passed l _ (sym e)).1
 
-    pub one-begun : (row : Row) → row ≡ goes_on (begins (record { esi_id = text; channel = channel; day = day }))
-        → row ≡ first_row (line_of line cr)
-    unfolding first_row
-    one-begun row b = b ∙ rw one-said
-
-    pub one-real : is_date day ≡ true
-    one-real = (one-passed (line_of line cr) _ one-said).1
-
-    -- the ESI ID fits where it is put
-    pub one-fits : length text ≤ esi_id_size
-    unfolding is_name
-    one-fits =
-        let is : is_esi_id text ≡ true = (one-passed (line_of line cr) _ one-said).0 in
-        let some = leb 1 (length text) in
-        let few = leb (length text) esi_id_size in
-        leb-true (length text) esi_id_size (and_right some few (and_left (some && few) (every is_alnum text) is))
+  -- the ESI ID fits where it is put
+  pub one-fits : length text ≤ esi_id_size
+  unfolding is_name
+  one-fits =
+      let is : is_esi_id text ≡ true = (one-passed l _ (sym e)).0 in
+      let some = leb 1 (length text) in
+      let few = leb (length text) esi_id_size in
+      leb-true (length text) esi_id_size (and_right some few (and_left (some && few) (every is_alnum text) is))
 
 -- ---- ROWS TWO, THREE, FOUR AND THIRTY
 
@@ -134,39 +116,29 @@ pub count-one : (p : Progress)
 count-one p = rw add-one
 
 module _ (p : Progress) where
-  module _ (r : Checked) (id sender : Bytes) (words : Words) where
-    abbrev AfterChecked : Row
-    AfterChecked = or_else p.day (checked_says r) (λ u. goes_on (with_row (rows_of p id sender words) words sender))
+  pub checked-passed : (o : Outcome (Unit {0})) → o ≡ passed tt → (id sender : Bytes) (words : Words) (q : RowRead) → q ≡ GoesOn (one_more p)
+      → row_says q p.day id sender words ≡ or_else p.day o (λ u. goes_on (with_row (rows_of p id sender words) words sender))
+  unfolding with_row
+  checked-passed o e id sender words q g = rw (e, g)
 
-    pub checked_refused : (v : ℕ) → r ≡ CheckedRefused v → refused_with v 0 p.day ≡ AfterChecked
-    checked_refused v h = rw h
+  module _ (l : Line) (words : Words) (id sender : Bytes) where
+    pub four-refused : (v : ℕ) → refused v ≡ row_four l → refused_with v 0 p.day ≡ four_row (rows_of p id sender words) l
+    four-refused v e = rw (← e)
 
-    pub checked-passed : (q : RowRead) → r ≡ CheckedPassed → q ≡ GoesOn (one_more p) → row_says q p.day id sender words ≡ AfterChecked
-    unfolding with_row
-    checked-passed q h g = rw (g, h)
-
-  module _ (l : Line) (r : Four) (e : four_says r ≡ row_four l) (words : Words) (id sender : Bytes) where
-    pub four-refused : (v : ℕ) → r ≡ FourRefused v → refused_with v 0 p.day ≡ four_row (rows_of p id sender words) l
-    four-refused v h = rw (← e, h)
-
-    pub four-passed : (s : Stamp) (q : RowRead) (words' : Words) → r ≡ FourPassed s → words' ≡ with_stamp words s → q ≡ GoesOn (one_more p)
+    pub four-passed : (s : Stamp) → passed s ≡ row_four l → (q : RowRead) (words' : Words) → words' ≡ with_stamp words s → q ≡ GoesOn (one_more p)
         → row_says q p.day id sender words' ≡ four_row (rows_of p id sender words) l
     unfolding with_row
-    four-passed s q words' h w g = rw (g, w, ← e, h)
+    four-passed s e q words' w g = rw (g, w, ← e)
 
-  module _ (line : Bytes) (cr : Bool) (r : Thirty) (e : thirty_says r line ≡ row_thirty (line_of line cr)) where
-    pub thirty-refused : (v : ℕ) → r ≡ ThirtyRefused v → (sender id : Bytes) (words : Words)
-        → refused_with v 0 p.day ≡ thirty_row (rows_of p id sender words) (line_of line cr)
-    thirty-refused v h sender id words = rw (← e, h)
+  module _ (l : Line) where
+    pub thirty-refused : (v : ℕ) → refused v ≡ row_thirty l → (sender id : Bytes) (words : Words) → refused_with v 0 p.day ≡ thirty_row (rows_of p id sender words) l
+    thirty-refused v e sender id words = rw (← e)
 
-    module _ (at : Place) (h : r ≡ ThirtyPassed at) (text : Bytes) (t : text ≡ text_at at line) where
-      pub thirty-said : row_thirty (line_of line cr) ≡ passed text
-      thirty-said = sym e ∙ rw (h, t)
-
+    module _ (text : Bytes) (e : passed text ≡ row_thirty l) where
       -- the number fits where it is put
       pub thirty-fits : length text ≤ owner_size
       unfolding is_duns
-      thirty-fits = by_length (length text) (and_left (eqb (length text) 9 || eqb (length text) duns_size) (every is_digit text) (sender-duns (line_of line cr) text thirty-said))
+      thirty-fits = by_length (length text) (and_left (eqb (length text) 9 || eqb (length text) duns_size) (every is_digit text) (sender-duns l text (sym e)))
         where
           by_length : (n : ℕ) → (eqb n 9 || eqb n duns_size) ≡ true → n ≤ owner_size
           by_length n h = by-nine n h (eqb n 9) refl
@@ -177,9 +149,9 @@ module _ (p : Progress) where
 
       pub thirty-put : (sender sender' : Bytes) (q : RowRead) → length sender ≡ owner_size → sender' ≡ pad (length sender) text
           → q ≡ GoesOn (one_more p) → (id : Bytes) (words : Words)
-          → row_says q p.day id sender' words ≡ thirty_row (rows_of p id sender words) (line_of line cr)
+          → row_says q p.day id sender' words ≡ thirty_row (rows_of p id sender words) l
       unfolding with_row
-      thirty-put sender sender' q n s g id words = rw (g, s, n, thirty-said)
+      thirty-put sender sender' q n s g id words = rw (g, s, n, ← e)
 
 -- the row that is due, by how many were read behind row one
 module _ (reg : Bytes) (rows : Rows) (l : Line) where
@@ -265,18 +237,18 @@ pub detail_taken : (reg id sender : Bytes) (p : Progress) (k : ℕ) (words put w
 unfolding with_row
 detail_taken reg id sender p k words put words' row e h = h ∙ rw e
 
-module _ (reg id sender : Bytes) (p : Progress) (words : Words) (l : Line) (few : header_rows ≤ p.read) (r : Detail) (e : detail_says r ≡ row_detail (p.read - header_rows) l) where
-  pub detail_refused : (v : ℕ) → r ≡ DetailRefused v → refused_with v 0 p.day ≡ next_row reg (rows_of p id sender words) l
+module _ (reg id sender : Bytes) (p : Progress) (words : Words) (l : Line) (few : header_rows ≤ p.read) where
+  pub detail_refused : (v : ℕ) → refused v ≡ row_detail (p.read - header_rows) l → refused_with v 0 p.day ≡ next_row reg (rows_of p id sender words) l
   unfolding detail_row
-  detail_refused v h = rw (due_detail reg (rows_of p id sender words) l few, ← e, h)
+  detail_refused v e = rw (due_detail reg (rows_of p id sender words) l few, ← e)
 
-  module _ (row : List Interval) (h : r ≡ DetailPassed row) where
+  module _ (row : List Interval) (e : passed row ≡ row_detail (p.read - header_rows) l) where
     pub detail_past : max_details ≤ p.read - header_rows → refused_with wrong_code 0 p.day ≡ next_row reg (rows_of p id sender words) l
     unfolding detail_row
-    detail_past m = rw (due_detail reg (rows_of p id sender words) l few, ← e, h, le-ltb (p.read - header_rows) max_details m)
+    detail_past m = rw (due_detail reg (rows_of p id sender words) l few, ← e, le-ltb (p.read - header_rows) max_details m)
 
     pub detail_in : p.read - header_rows < max_details → (step : Row)
         → step ≡ after_detail reg (p.read - header_rows) (with_row (rows_of p id sender words) (with_intervals words ((p.read - header_rows) * per_row) row) sender)
         → step ≡ next_row reg (rows_of p id sender words) l
     unfolding detail_row
-    detail_in m step g = g ∙ rw (due_detail reg (rows_of p id sender words) l few, ← e, h, lt-ltb (p.read - header_rows) max_details m)
+    detail_in m step g = g ∙ rw (due_detail reg (rows_of p id sender words) l few, ← e, lt-ltb (p.read - header_rows) max_details m)

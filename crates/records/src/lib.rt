@@ -9,7 +9,8 @@ ghost use Rattle.std.specs.Prelude.{◌≡◌, [], ◌∷◌, true, ◌*◌, ◌
 ghost use Rattle.calendar.specs.Date.{is_date};
 ghost use Rattle.text.specs.Byte.{Bytes};
 ghost use Rattle.text.specs.Identifier.{esi_id_size};
-ghost use Rattle.lines.specs.Answer.{line_of, text_at, checked_says};
+ghost use Rattle.report.specs.Outcome.{says};
+ghost use Rattle.lines.specs.Answer.{line_of};
 ghost use Rattle.details.specs.Detail.{per_row};
 ghost use Rattle.registry.specs.Entry.{owner_size};
 ghost use Rattle.cell.specs.Layout.{Words, width};
@@ -21,15 +22,12 @@ ghost use Rattle.records.specs.declared.RowRead.TheVariants.{GoesOn};
 use calendar::intervals_on;
 use cell::{Cell, begin, put_interval, put_stamp};
 use checks::{Judgement, judge};
-use details::detail::{Detail, PER_ROW, Row, read_detail};
-use headers::four::Four;
-use headers::one::{Channel, One};
-use headers::thirty::Thirty;
-use lines::row::{Checked, Place};
+use details::detail::{PER_ROW, Row, read_detail};
+use headers::one::Channel;
 use padded::padding::put_padded;
 use registry::entry::Window;
-use report::verdict::WRONG_CODE;
-use text::fields::{behind, front};
+use report::verdict::Verdict;
+use text::fields::front;
 use usual::four::read_four;
 use usual::one::read_one;
 use usual::thirty::read_thirty;
@@ -76,13 +74,6 @@ pub struct Known {
     pub hint: usize,
 }
 
-// The text at a place of a line.
-fn text_at(line: &[u8], place: Place) -> &[u8]
-    ensures { result.now ≡ text_at place line.now }
-{
-    front(behind(line, place.at), place.len)
-}
-
 // Row one's fields begin a record, in whatever another one left.
 fn begin_record(
     text: &[u8],
@@ -119,11 +110,8 @@ pub fn row_one(
     ensures { (row_says result 0 id.new sender.new words.new ≡ first_row (line_of line.now cr)) × Sized id.new sender.new words.new }
 {
     match read_one(line, cr) {
-        One::Refused(verdict) => RowRead::Refused(verdict, 0),
-        One::Passed(place, channel, day) => {
-            let text = text_at(line, place);
-            begin_record(text, channel, day, id, sender, words)
-        }
+        Err(verdict) => RowRead::Refused(u32::from(verdict), 0),
+        Ok(one) => begin_record(one.id, one.channel, one.day, id, sender, words),
     }
 }
 
@@ -142,13 +130,13 @@ fn counted(p: Progress) -> RowRead
 }
 
 // Rows two and three, which leave nothing but their being right.
-fn row_checked(p: Progress, r: Checked) -> RowRead
+fn row_checked(p: Progress, r: Result<(), Verdict>) -> RowRead
     requires { Few p }
-    ensures { (id sender : Bytes) (words : Words) → row_says result p.day id sender words ≡ or_else p.day (checked_says r) (λ u. goes_on (with_row (rows_of p id sender words) words sender)) }
+    ensures { (id sender : Bytes) (words : Words) → row_says result p.day id sender words ≡ or_else p.day (says r) (λ u. goes_on (with_row (rows_of p id sender words) words sender)) }
 {
     match r {
-        Checked::Refused(verdict) => RowRead::Refused(verdict, 0),
-        Checked::Passed => counted(p),
+        Err(verdict) => RowRead::Refused(u32::from(verdict), 0),
+        Ok(()) => counted(p),
     }
 }
 
@@ -157,8 +145,8 @@ fn row_four(p: Progress, line: &[u8], cr: bool, words: &mut [u32]) -> RowRead
     ensures { ((id sender : Bytes) → row_says result p.day id sender words.new ≡ four_row (rows_of p id sender words.old) (line_of line.now cr)) × (length words.new ≡ width) × unless_on result (words.new ≡ words.old) }
 {
     match read_four(line, cr) {
-        Four::Refused(verdict) => RowRead::Refused(verdict, 0),
-        Four::Passed(stamp) => {
+        Err(verdict) => RowRead::Refused(u32::from(verdict), 0),
+        Ok(stamp) => {
             put_stamp(words, stamp);
             counted(p)
         }
@@ -170,10 +158,9 @@ fn row_thirty(p: Progress, line: &[u8], cr: bool, sender: &mut [u8]) -> RowRead
     ensures { ((id : Bytes) (words : Words) → row_says result p.day id sender.new words ≡ thirty_row (rows_of p id sender.old words) (line_of line.now cr)) × (length sender.new ≡ owner_size) × unless_on result (sender.new ≡ sender.old) }
 {
     match read_thirty(line, cr) {
-        Thirty::Refused(verdict) => RowRead::Refused(verdict, 0),
-        Thirty::Passed(place) => {
-            let text = text_at(line, place);
-            put_padded(sender, text);
+        Err(verdict) => RowRead::Refused(u32::from(verdict), 0),
+        Ok(number) => {
+            put_padded(sender, number);
             counted(p)
         }
     }
@@ -306,10 +293,10 @@ fn row_detail(
 {
     let k = p.read - HEADER_ROWS;
     match read_detail(line, cr, k) {
-        Detail::Refused(verdict) => RowRead::Refused(verdict, 0),
-        Detail::Passed(row) => {
+        Err(verdict) => RowRead::Refused(u32::from(verdict), 0),
+        Ok(row) => {
             if MAX_DETAILS <= k {
-                return RowRead::Refused(WRONG_CODE, 0);
+                return RowRead::Refused(u32::from(Verdict::WrongCode), 0);
             }
             take_detail(
                 p, k, &row, registry, meters, owners, known, id, sender, words,

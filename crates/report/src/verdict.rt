@@ -46,3 +46,22 @@ pub fn require(holds: bool, verdict: Verdict) -> Result<(), Verdict>
 
 // The number in the place of a verdict in the entry of a record that was loaded.
 pub const LOADED: u32 = 0;
+
+// The numbers, where a verdict is written into an entry.
+pub const STRAY: u32 = 10;
+
+pub const SHORT: u32 = 12;
+
+pub const SURPLUS: u32 = 22;
+
+pub const UNKNOWN_METER: u32 = 30;
+
+pub const NOT_OWNER: u32 = 31;
+
+pub const READ_BY_ERCOT: u32 = 32;
+
+pub const NO_INTERVAL_DATA: u32 = 33;
+
+pub const NOT_IDR: u32 = 34;
+
+pub const OUTSIDE_WINDOW: u32 = 35;

@@ -1,10 +1,8 @@
 -- `records::row_checked` meets its contract.
 -- Assumes nothing.
-use Rattle.records.proofs.Steps.{checked_refused, checked-passed}
+use mathlib.Core.Path.{refl}
+use Rattle.records.proofs.Steps.{checked-passed}
 use Rattle.records.proofs.row_checked.Goals as goal
 
-pub returns-in-Refused : goal.returns-in-Refused
-returns-in-Refused c = λ id sender words. checked_refused c.args.p c.args.r id sender words _ c.in-Refused.is
-
-pub returns-in-Passed : goal.returns-in-Passed
-returns-in-Passed c = λ id sender words. checked-passed c.args.p c.args.r id sender words _ c.in-Passed.is c.counted.ensures
+pub returns-in-Ok : goal.returns-in-Ok
+returns-in-Ok c = λ id sender words. checked-passed c.args.p _ (rw c.in-Ok.is refl) id sender words _ c.counted.ensures

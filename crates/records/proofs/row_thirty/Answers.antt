@@ -8,11 +8,11 @@ use Rattle.records.proofs.Steps.{unless_on_lem, thirty-refused, thirty-put, thir
 use Rattle.records.proofs.row_thirty.Goals as goal
 
 pub put_padded-requires : goal.put_padded-requires
-put_padded-requires c = (let fits = thirty-fits c.args.p _ _ _ c.read_thirty.ensures _ c.in-Passed.is _ c.text_at-text.ensures in omega (arith, fits, c.requires.1))
+put_padded-requires c = (let fits = thirty-fits c.args.p _ _ c.in-Ok.ensures in omega (arith, fits, c.requires.1))
 
-pub returns-in-Refused : goal.returns-in-Refused
+pub returns-in-Err : goal.returns-in-Err
 unfolding unless_on
-returns-in-Refused c = (thirty-refused c.args.p _ _ _ c.read_thirty.ensures _ c.in-Refused.is _, c.requires.1, refl)
+returns-in-Err c = (λ id words. rw c.from.ensures (thirty-refused c.args.p _ _ c.in-Err.ensures _ id words), c.requires.1, refl)
 
-pub returns-in-Passed : goal.returns-in-Passed
-returns-in-Passed c = (thirty-put c.args.p _ _ _ c.read_thirty.ensures _ c.in-Passed.is _ c.text_at-text.ensures _ _ _ c.requires.1 c.put_padded.ensures c.counted.ensures, search rules, unless_on_lem _ _ _ c.counted.ensures)
+pub returns-in-Ok : goal.returns-in-Ok
+returns-in-Ok c = (thirty-put c.args.p _ _ c.in-Ok.ensures _ _ _ c.requires.1 c.put_padded.ensures c.counted.ensures, search rules, unless_on_lem _ _ _ c.counted.ensures)
