@@ -8,10 +8,8 @@ use native.Mathlib.Omega.{arith}
 use Rattle.std.specs.Int.{from_bool}
 use lib.Dec.{eqb, ltb}
 use lib.ListN.{length, take, get_or}
-use lib.Seq.{take_all}
-use borrow.Author.Tests.{leb-true, leb-false, lt-ltb, le-ltb, ltb-false}
+use borrow.Author.Tests.{ltb-false}
 use Rattle.text.specs.Byte.{Bytes, starts_with}
-use Rattle.text.proofs.Truth.{apart}
 use Rattle.lines.specs.Line.{CR, ends_with_cr, drop_cr, ended_line, last_line, line_limit, cr_size, is_long, opener_bytes, detail_bytes, kind_of}
 use Rattle.lines.specs.Answer.{line_of}
 use Rattle.lines.specs.declared.line.Kind.TheVariants.{Empty, Opener, Detail, Other}

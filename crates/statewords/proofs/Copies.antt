@@ -1,8 +1,8 @@
 -- Numbers put into a lent run one by one: words as bytes, and words or bytes from a place on.
 -- Assumes nothing.
-use mathlib.Core.Path.{◌≡◌, sym, ◌∙◌}
-use mathlib.Core.List.{[], ◌∷◌, map-append}
-use Prim.Native.Nat.{ℕ, ◌+◌, ◌%◌, ◌<◌, ◌≤◌}
+use mathlib.Core.Path.{◌≡◌, refl, sym, ◌∙◌}
+use mathlib.Core.List.{[], ◌∷◌}
+use Prim.Native.Nat.{ℕ, suc, ◌+◌, ◌%◌, ◌<◌, ◌≤◌}
 use native.Mathlib.Nat.{mod-eq_of_lt}
 use native.Mathlib.Numerals.{add-one}
 use native.Mathlib.Omega.{arith}
@@ -36,17 +36,12 @@ module _ (was to : Words) (at : ℕ) (from : Words) (i : ℕ) (inv : to ≡ past
   pub put_again : i < length from → set to (at + i) (get_or from i 0) ≡ paste was at from (i + 1)
   put_again h = rw (add-one, inv) (paste-suc was at from i 0 (omega arith) h)
 
-  pub put-end : length from ≤ i → i ≤ length from → to ≡ put_at was at from
+  pub put_end : length from ≤ i → i ≤ length from → to ≡ put_at was at from
   unfolding put_at
-  put-end h g = let e : i ≡ length from = omega arith in rw e at inv
+  put_end h g = let e : i ≡ length from = omega arith in rw e at inv
 
 -- bytes are what their words are
-module _ (bs : Bytes) (i : ℕ) (inv : bytes_in (take i bs) ≡ take i bs) where
-  pub same_again : i < length bs → get_or bs i 0 < 256 → bytes_in (take (i + 1) bs) ≡ take (i + 1) bs
-  unfolding bytes_in
-  same_again h b =
-      rw (add-one, take-suc bs i 0 h)
-      (map-append byte_in (take i bs) (get_or bs i 0 ∷ []) ∙ rw (inv, mod-eq_of_lt b))
-
-  pub same_end : length bs ≤ i → bytes_in bs ≡ bs
-  same_end h = rw (take_all i bs h) at inv
+pub same : (bs : Bytes) → ((i : ℕ) → get_or bs i 0 < 256) → bytes_in bs ≡ bs
+unfolding bytes_in
+same [] small = refl
+same (b ∷ bs) small = rw (mod-eq_of_lt (small 0), same bs (λ i. small (suc i)))

@@ -43,10 +43,8 @@ fn get_bytes(to: &mut [u8], from: &[u32])
     requires { length to.old ≡ length from.now }
     ensures { to.new ≡ bytes_in from.now }
 {
-    let mut i: usize = 0;
-    while i < to.len() {
-        to[i] = (from[i] % 256) as u8;
-        i += 1;
+    for (i, b) in to.iter_mut().enumerate() {
+        *b = (from[i] % 256) as u8;
     }
 }
 
@@ -55,10 +53,8 @@ fn put_bytes(to: &mut [u32], at: usize, from: &[u8])
     requires { at + length from.now ≤ length to.old }
     ensures { (to.new ≡ put_at to.old at from.now) × (bytes_in from.now ≡ from.now) }
 {
-    let mut i: usize = 0;
-    while i < from.len() {
-        to[at + i] = from[i] as u32;
-        i += 1;
+    for (i, b) in from.iter().enumerate() {
+        to[at + i] = u32::from(*b);
     }
 }
 
@@ -67,14 +63,11 @@ fn put_words(to: &mut [u32], at: usize, from: &[u32])
     requires { at + length from.now ≤ length to.old }
     ensures { to.new ≡ put_at to.old at from.now }
 {
-    let mut i: usize = 0;
-    while i < from.len() {
-        to[at + i] = from[i];
-        i += 1;
-    }
+    to[at..at + from.len()].copy_from_slice(from);
 }
 
 // A number of 64 bits, its low word first.
+#[tactic(auto, unfolding(crate::specs::Layout::wide_in))]
 fn wide_in(words: &[u32], at: usize) -> usize
     requires { at + 1 < length words.now }
     ensures { result ≡ wide_in words.now at }
@@ -85,41 +78,40 @@ fn wide_in(words: &[u32], at: usize) -> usize
 fn channel_in(word: u32) -> Channel
     ensures { result ≡ channel_in word }
 {
-    if word == 0 {
-        return Channel::Load;
+    match word {
+        0 => Channel::Load,
+        _ => Channel::Generation,
     }
-    Channel::Generation
 }
 
 fn unit_in(words: &[u32]) -> Unit
     requires { length words.now ≡ unit_size }
     ensures { result ≡ unit_from words.now }
 {
-    let kind = words[0];
     let first = words[1];
     let channel = channel_in(words[6]);
-    if kind == 0 {
-        return Unit::None;
+    match words[0] {
+        0 => Unit::None,
+        1 => {
+            let p = Progress {
+                read: words[2],
+                due: words[3],
+                day: words[4],
+                channel,
+            };
+            Unit::Takes(first, p)
+        }
+        2 => {
+            let r = Ready {
+                meter: (words[3] % 65536) as u16,
+                offset: (words[4] % 65536) as u16,
+                day: words[5],
+                channel,
+            };
+            Unit::Waits(first, words[2], r)
+        }
+        _ => Unit::Skips,
     }
-    if kind == 1 {
-        let p = Progress {
-            read: words[2],
-            due: words[3],
-            day: words[4],
-            channel,
-        };
-        return Unit::Takes(first, p);
-    }
-    if kind == 2 {
-        let r = Ready {
-            meter: (words[3] % 65536) as u16,
-            offset: (words[4] % 65536) as u16,
-            day: words[5],
-            channel,
-        };
-        return Unit::Waits(first, words[2], r);
-    }
-    Unit::Skips
 }
 
 // The state that words are.
@@ -171,7 +163,15 @@ fn unit_words(unit: Unit) -> [u32; 7]
         Unit::Waits(first, last, r) => {
             let channel = r.channel;
             let c = channel_word(channel);
-            [2, first, last, r.meter as u32, r.offset as u32, r.day, c]
+            [
+                2,
+                first,
+                last,
+                u32::from(r.meter),
+                u32::from(r.offset),
+                r.day,
+                c,
+            ]
         }
         Unit::Skips => [3, 0, 0, 0, 0, 0, 0],
     }

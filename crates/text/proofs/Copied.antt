@@ -1,19 +1,12 @@
--- Lists that a loop fills from the left: with the elements of another, or with one and the same. One element more, and all.
+-- Lists that a loop fills from the left with one and the same element. One element more, and all.
 -- Assumes nothing.
 use mathlib.Core.Path.{◌≡◌, refl, sym, ap, ◌∙◌}
 use mathlib.Core.List.{List, [], ◌∷◌, ◌++◌}
 use Prim.Native.Nat.{ℕ, zero, suc, ◌+◌, ◌<◌, ◌≤◌}
 use native.Mathlib.Numerals.{add-one}
 use native.Mathlib.Omega.{arith}
-use lib.ListN.{length, get_or, set, take, replicate}
-use lib.Seq.{take-suc, take-suc-set, take_all}
-
-module _ (to from : List ℕ) (i : ℕ) (inv : take i to ≡ take i from) (l : length to ≡ length from) where
-  pub copy_again : i < length to → take (i + 1) (set to i (get_or from i 0)) ≡ take (i + 1) from
-  copy_again h = rw (add-one, take-suc-set to i (get_or from i 0) h, inv) (sym (take-suc from i 0 (omega arith)))
-
-  pub copy_end : length to ≤ i → to ≡ from
-  copy_end h = sym (take_all i to h) ∙ inv ∙ take_all i from (omega arith)
+use lib.ListN.{length, set, take, replicate}
+use lib.Seq.{take-suc-set, take_all}
 
 last-same : (x i : ℕ) → replicate i x ++ x ∷ [] ≡ replicate (suc i) x
 last-same x zero = refl

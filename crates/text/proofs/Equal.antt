@@ -1,6 +1,6 @@
 -- Texts compared: two texts, and a text with the beginning of another.
 -- Assumes nothing.
-use Rattle.std.proofs.Common.{◌≡◌, Bool, true, ◌&&◌, ℕ, length, drop, ◌+◌, ◌++◌, ◌<◌, ◌≤◌, arith, refl, ap, sym, ◌∙◌}
+use Rattle.std.proofs.Common.{◌≡◌, Bool, true, ◌&&◌, ℕ, length, drop, ◌+◌, ◌++◌, ◌<◌, ◌≤◌, arith, ap, sym, ◌∙◌}
 use mathlib.Core.Bool.{and-true, and_assoc}
 use Rattle.text.proofs.Left.{left-cons, left-none}
 use Rattle.std.proofs.lemmas.Slice.Eq.{bytes_eq-Decides, starts_is}

@@ -16,12 +16,9 @@ left-cons s i h = rw (add-one, drop-cons s i 0)
 pub left-none : (s : Bytes) (i : ℕ) → length s ≤ i → drop i s ≡ []
 left-none s i h = drop_of_length-le s h
 
--- all that is left, and nothing
+-- all that is left
 pub left-whole : (s : Bytes) (i : ℕ) → take (length s - i) (drop i s) ≡ drop i s
 left-whole s i = take_all (length s - i) (drop i s) (simp length-drop (omega arith))
-
-pub left-empty : (s : Bytes) (n : ℕ) → length s ≤ n → take (length s - length s) (drop (length s) s) ≡ drop n s
-left-empty s n h = rw (left-none s (length s) (omega arith), left-none s n h) (take-nil (length s - length s))
 
 pub front-whole : (s : Bytes) (n : ℕ) → length s ≤ n → take (length s - 0) s ≡ take n s
 front-whole s n h = take_all (length s - 0) s (omega arith) ∙ sym (take_all n s h)

@@ -1,12 +1,7 @@
--- What the loops of `statewords::get_bytes` keep, and why they end.
-use Prim.Native.Nat.{◌≤◌, ◌-◌}
-use mathlib.Core.Path.{◌≡◌}
-use lib.ListN.{length, take}
+-- What the loop of `statewords::get_bytes` keeps.
+use Rattle.std.proofs.Common.{◌≡◌, take}
 use Rattle.statewords.specs.Layout.{bytes_in}
 use Rattle.statewords.proofs.get_bytes.Given as goal
 
 abbrev pub invariant-loop-i : goal.invariant-loop-i
-invariant-loop-i l = (l.i ≤ length l.from) × (length l.to ≡ length l.from) × (take l.i l.to ≡ take l.i (bytes_in l.from))
-
-abbrev pub decreases-loop-i : goal.decreases-loop-i
-decreases-loop-i l = length l.from - l.i
+invariant-loop-i l = take l.i l.to ≡ take l.i (bytes_in l.from)

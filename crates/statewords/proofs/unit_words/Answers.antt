@@ -14,7 +14,7 @@ pub returns-in-Takes : goal.returns-in-Takes
 returns-in-Takes c = takes_out _ _ _ c.channel_word-c.ensures ∙ sym c.in-Takes.is
 
 pub returns-in-Waits : goal.returns-in-Waits
-returns-in-Waits c = waits_out c.in-Waits.first c.in-Waits.last c.in-Waits.r _ (omega arith) (omega arith) c.channel_word-c-in-Waits.ensures ∙ sym c.in-Waits.is
+returns-in-Waits c = rw (c.from.ensures, c.from-in-Waits.ensures) (waits_out c.in-Waits.first c.in-Waits.last c.in-Waits.r _ (omega arith) (omega arith) c.channel_word-c-in-Waits.ensures ∙ sym c.in-Waits.is)
 
 pub returns-in-Skips : goal.returns-in-Skips
 unfolding unit_from

@@ -1,6 +1,5 @@
 -- `lines::line::is_long` meets its contract.
 -- Assumes nothing.
-use Rattle.std.proofs.Common.{rules}
 use Rattle.lines.proofs.Lines.{long_counted}
 use Rattle.lines.proofs.line.is_long.Goals as goal
 

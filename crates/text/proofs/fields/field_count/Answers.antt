@@ -1,7 +1,6 @@
 -- `text::fields::field_count` meets its contract.
 -- Assumes nothing.
 use borrow.Author.Rules.{rules}
-use Rattle.std.proofs.Common.{arith}
 use Rattle.text.proofs.Comma.{count-comma, count_other, count-last}
 use Rattle.text.proofs.fields.field_count.Goals as goal
 use Rattle.text.proofs.fields.field_count.Goals.{then-b-eq44, else-b-eq44}

@@ -1,6 +1,6 @@
 -- `text::numbers::number_of` meets its contract.
 -- Assumes nothing.
-use Rattle.std.proofs.Common.{rules, arith, refl}
+use Rattle.std.proofs.Common.{rules, arith}
 use Rattle.text.proofs.Decimal.{number_again, number-last, power_step, power_more}
 use Rattle.text.proofs.Class.{digit_at}
 use Rattle.text.proofs.numbers.number_of.Goals as goal
