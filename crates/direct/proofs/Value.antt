@@ -18,24 +18,7 @@ use Rattle.details.specs.Value.{point, whole_digits, part_digits, is_negative, w
 use Rattle.details.specs.Answer.{value_says as plain_says}
 use Rattle.details.specs.declared.value.Value.{Value as Plain}
 use Rattle.details.specs.declared.value.Value.TheVariants.{WattHours as PlainHours}
-use Rattle.direct.specs.Guess.{
-  bytes_of,
-  is_numeral,
-  tens_from,
-  Layout,
-  Aligned,
-  Writes,
-  BeginsValue,
-  BeginsDigits,
-  HasTriple,
-  in_value,
-  tail,
-  status_byte,
-  value_size,
-  tail_size,
-  word_size,
-  whole_taken,
-}
+use Rattle.direct.specs.Guess.{bytes_of, is_numeral, Layout, Aligned, Writes, BeginsValue, BeginsDigits, HasTriple, in_value, tail, status_byte, value_size, tail_size, word_size, whole_taken}
 use Rattle.text.proofs.Class.{every_append}
 use Rattle.direct.proofs.Every.{digits-plain}
 use Rattle.direct.proofs.Numeral.{spread}
@@ -236,11 +219,7 @@ tail-bytes false = refl
 pub tail-read : (x : ℕ) (s : Bytes) (e : Bool) → bytes_of 4 x ≡ take 4 s → x ≡ tail_word e → take tail_size s ≡ tail (status_byte e)
 tail-read x s e word q = sym word ∙ rw q (tail-bytes e)
 
--- AN INTERVAL, of the answers of the readers of its parts
-pub short-done : (t : Bytes) (at w n : ℕ) → BeginsDigits (drop at t) w n → (m : Bool) → take tail_size (drop (at + n) t) ≡ tail (status_byte m)
-    → (wh : ℕ) → wh ≡ tens_from 0 (bytes_of 8 w) → HasTriple t at (record { wh = wh; estimated = m }) (at + n + tail_size)
-short-done t at w n h m behind wh e = record { n = n; value = rw e h.value; behind = behind; ends = refl }
-
+-- AN INTERVAL with such a value, of the answers of the readers of its parts
 module _ (t : Bytes) (at wh : ℕ) (f : Bytes) (v : Plain) (e : f ≡ first_field (take (at + value_size - at) (drop at t))) (says : plain_says v ≡ value_of f)
     (ev : v ≡ PlainHours wh) where
   pub long-short : length f ≤ value_size
