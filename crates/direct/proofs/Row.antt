@@ -1,14 +1,14 @@
 -- A whole detail line, interval after interval, and that the row's rule gives the same for it.
 -- Assumes nothing.
-use Rattle.std.proofs.Common.{◌≡◌, ℕ, suc, ◌+◌, ◌*◌, ◌/◌, ◌%◌, ◌<◌, ◌≤◌, Bool, true, false, ◌&&◌, eqb, List, [], ◌∷◌, ◌++◌, length, get_or, take, drop, sym, refl, ap, ◌∙◌, append_assoc, append-nil, add-one, arith, length-take, length-take-le, get_or-take, take-suc, take-take, drop-drop, take-add, le-ltb, eq-eqb, eqb-true, Option, Some, None, set, length-set, take_all, slice_range, ◌-◌, length-drop}
+use Rattle.std.proofs.Common.{◌≡◌, ℕ, suc, ◌+◌, ◌*◌, ◌/◌, ◌%◌, ◌<◌, ◌≤◌, Bool, true, false, List, [], ◌∷◌, ◌++◌, length, get_or, take, drop, sym, refl, ap, ◌∙◌, append_assoc, append-nil, add-one, arith, length-take, length-take-le, get_or-take, take-suc, take-take, drop-drop, take-add, le-ltb, eq-eqb, Option, Some, None, set, length-set, take_all, slice_range, ◌-◌, length-drop}
 use Rattle.std.proofs.lemmas.List.{take_more_set}
 use Rattle.text.specs.Byte.{Bytes, every, equals, starts_with}
 use Rattle.text.specs.Field.{comma, cut, in_front}
 use Rattle.text.specs.Number.{digits_of}
-use Rattle.text.proofs.Truth.{apart, and_left, and_right}
+use Rattle.text.proofs.Truth.{and_left, and_right}
 use Rattle.text.proofs.Class.{digit_of}
 use Rattle.text.proofs.Equal.{equals_refl}
-use Rattle.lines.specs.Line.{LF, CR, not_lf, ended_line, cr_size, is_long, line_limit, kind_of}
+use Rattle.lines.specs.Line.{CR, not_lf, ended_line, cr_size, is_long, line_limit, kind_of}
 use Rattle.lines.proofs.Ended.{ended-plain, ended-cr}
 use Rattle.report.specs.Outcome.{passed}
 use Rattle.lines.specs.Row.{fields_of}
@@ -207,18 +207,6 @@ module _ (k : ℕ) (t : Bytes) (at : ℕ) (row : List Interval) (long : length r
         kind = rw text;
         row = rw (text, line-ended cr) (line_row cr (omega (arith, size, size-cr cr)));
       }
-
--- WHERE IT ENDS
-pub end-here : (t : Bytes) (at : ℕ) → get_or t at 0 ≡ LF → EndsAt t at at
-end-here t at e = record { cr = false; behind = omega arith; lf = e; dropped = λ f. absurd (apart f) }
-
-pub end-behind : (t : Bytes) (at : ℕ) → (eqb (get_or t at 0) CR && eqb (get_or t (at + 1) 0) LF) ≡ true → EndsAt t at (at + 1)
-end-behind t at e = record {
-  cr = true;
-  behind = refl;
-  lf = eqb-true (get_or t (at + 1) 0) LF (and_right (eqb (get_or t at 0) CR) (eqb (get_or t (at + 1) 0) LF) e);
-  dropped = λ f. eqb-true (get_or t at 0) CR (and_left (eqb (get_or t at 0) CR) (eqb (get_or t (at + 1) 0) LF) e);
-}
 
 -- THE LOOP of the reader: i intervals are read, and there is room for those that are left
 pub record RowSoFar (k : ℕ) (t : Bytes) (at i : ℕ) (row : List Interval) : Type 0 where

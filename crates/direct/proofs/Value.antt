@@ -15,24 +15,7 @@ use Rattle.text.proofs.Decimal.{run_take, run_drop, run_digits}
 use Rattle.report.specs.Outcome.{passed, refused}
 use Rattle.report.specs.Verdict.{negative, no_value}
 use Rattle.details.specs.Value.{point, whole_digits, part_digits, is_negative, watt_hours, with_point, value_parts, value_of}
-use Rattle.direct.specs.Guess.{
-  bytes_of,
-  is_numeral,
-  tens_from,
-  Layout,
-  Aligned,
-  Writes,
-  BeginsValue,
-  BeginsDigits,
-  HasTriple,
-  in_value,
-  tail,
-  status_byte,
-  value_size,
-  tail_size,
-  word_size,
-  whole_taken,
-}
+use Rattle.direct.specs.Guess.{bytes_of, is_numeral, Layout, Aligned, Writes, BeginsValue, BeginsDigits, HasTriple, in_value, tail, status_byte, value_size, tail_size, word_size, whole_taken}
 use Rattle.text.proofs.Class.{every_append}
 use Rattle.direct.proofs.Every.{digits-plain}
 use Rattle.direct.proofs.Numeral.{spread}
@@ -233,11 +216,7 @@ tail-bytes false = refl
 pub tail-read : (x : ℕ) (s : Bytes) (e : Bool) → bytes_of 4 x ≡ take 4 s → x ≡ tail_word e → take tail_size s ≡ tail (status_byte e)
 tail-read x s e word q = sym word ∙ rw q (tail-bytes e)
 
--- AN INTERVAL, of the answers of the readers of its parts
-pub short-done : (t : Bytes) (at w n : ℕ) → BeginsDigits (drop at t) w n → (m : Bool) → take tail_size (drop (at + n) t) ≡ tail (status_byte m)
-    → (wh : ℕ) → wh ≡ tens_from 0 (bytes_of 8 w) → HasTriple t at (record { wh = wh; estimated = m }) (at + n + tail_size)
-short-done t at w n h m behind wh e = record { n = n; value = rw e h.value; behind = behind; ends = refl }
-
+-- AN INTERVAL with such a value, of the answers of the readers of its parts
 module _ (t : Bytes) (at wh : ℕ) (f : Bytes) (e : f ≡ first_field (take (at + value_size - at) (drop at t))) (says : passed wh ≡ value_of f) where
   pub long-short : length f ≤ value_size
   long-short = (long-read t at wh f e says).short

@@ -239,11 +239,11 @@ module _ (k : ℕ) (a b c d : Interval) where
   detail_no_lf = joined_no_lf _ detail_plain
 
   pub detail_kind : kind_of (ended_line (line_detail k (a ∷ b ∷ c ∷ d ∷ []))).body ≡ Detail
-  unfolding line_detail with_commas kind_of starts_with
+  unfolding line_detail row_fields with_commas kind_of starts_with
   detail_kind = rw (joined-ended _ _ detail_plain)
 
   pub detail_back : a.wh < value_end → b.wh < value_end → c.wh < value_end → d.wh < value_end → row_detail k (ended_line (line_detail k (a ∷ b ∷ c ∷ d ∷ []))) ≡ passed (a ∷ b ∷ c ∷ d ∷ [])
-  unfolding line_detail row_detail detail_of four_intervals is_empty
+  unfolding line_detail row_fields row_detail detail_of four_intervals is_empty
   detail_back ha hb hc hd =
       let short : length (line_detail k (a ∷ b ∷ c ∷ d ∷ [])) ≤ line_limit = omega (arith, detail_length k (a ∷ b ∷ c ∷ d ∷ []) refl) in
       rw (fields_back _ _ detail_plain 14 refl short, interval_back a ha, interval_back b hb, interval_back c hc, interval_back d hd)

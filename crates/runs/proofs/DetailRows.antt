@@ -15,7 +15,7 @@ use borrow.Author.Tests.{eqb-true, ne_eqb, lt-ltb, le-ltb}
 use Rattle.std.proofs.Common.{Some, None}
 use Rattle.text.specs.Byte.{Bytes, starts_with}
 use Rattle.lines.specs.Line.{ended_line, opener_bytes, detail_bytes, drop_cr, kind_of}
-use Rattle.lines.specs.End.{LineAt, EmptyAt}
+use Rattle.lines.specs.End.{LineAt}
 use Rattle.lines.specs.declared.line.Kind.TheVariants.{Opener, Detail, Other}
 use Rattle.details.specs.Detail.{per_row}
 use Rattle.details.specs.declared.detail.Interval.{Interval}
@@ -32,7 +32,7 @@ use Rattle.records.specs.Answer.{rows_of, Few}
 use Rattle.records.proofs.Steps.{due_detail}
 use Rattle.units.specs.Answer.{judged_if}
 use Rattle.runs.specs.declared.rows.Taken.{Taken}
-use Rattle.runs.specs.Run.{taken_rows, with_read, Took, DetailTook, DetailTaken, rows_to, RowsRan, DetailsRan}
+use Rattle.runs.specs.Run.{with_read, Took, DetailTook, DetailTaken, rows_to, RowsRan, DetailsRan}
 use Rattle.runs.proofs.LineMore.{empty-step, rows-begin, rows_more}
 
 -- ---- ONE LINE
@@ -78,11 +78,6 @@ module _ (reg s : Bytes) (k n : ℕ) (vs : List Interval) (d : DetailLine k s vs
 -- ---- THE LINE AT A PLACE
 
 module _ (k : ℕ) (piece : Bytes) (at : ℕ) (words : Words) where
-  pub detail_gap : (size : ℕ) (t : Taken) → t ≡ taken_rows size 0 → EmptyAt piece at size → length words ≡ width
-      → DetailTaken k piece at words (Some t) words
-  detail_gap size t is h lw =
-      rw is (record { words_sized = lw; taken = record { few = omega arith; gap = λ z. (h, refl); row = λ z. absurd (omega (arith, z)) } })
-
   pub detail_put : (vs : List Interval) (n : ℕ) (words' : Words) → DetailLine k (drop at piece) vs n → words' ≡ with_intervals words (k * per_row) vs
       → length words' ≡ width → DetailTaken k piece at words (Some (record { size = n + 1; rows = 1 })) words'
   detail_put vs n words' d e lw =
