@@ -16,7 +16,6 @@ use Rattle.text.proofs.Truth.{apart, and_left, and_right}
 use Rattle.text.proofs.Left.{left-whole}
 use Rattle.padded.specs.Padding.{is_space, unpad, unpad_to}
 use Rattle.padded.specs.Private.{is_padded, spaces_last}
-use Rattle.padded.proofs.Scan.{last-cons}
 use Rattle.padded.proofs.Unpad.{space_no_alnum, unpad-nil, unpad-head, unpad-within, unpad-take, unpad-drop, digits-unpad, spaces_unpad}
 
 -- ---- AN ESI ID
@@ -55,7 +54,7 @@ unpad_alnum (b ∷ []) = go (is_space b) refl
     go : (z : Bool) → is_space b ≡ z → every is_alnum (cond (is_space b) [] (b ∷ [])) ≡ (((is_alnum b || is_space b) && true) && true)
     go true f = simp (f, or-true)
     go false f = simp (f, or-false, and-true)
-unpad_alnum (b ∷ c ∷ s) = rw last-cons (alnum_more b c s (unpad (c ∷ s)) refl (sym (unpad_alnum (c ∷ s))))
+unpad_alnum (b ∷ c ∷ s) = alnum_more b c s (unpad (c ∷ s)) refl (sym (unpad_alnum (c ∷ s)))
 
 esi_id_padded : (s : Bytes) → length s ≡ 64 → ((not (is_space (get_or s 0 0)) && every is_padded s) && spaces_last s) ≡ is_esi_id (unpad s)
 unfolding unpad is_name every
@@ -75,7 +74,7 @@ esi_id_padded (c ∷ s) h =
         bool x y = refl
 
 -- neighbours tested in two runs that have a pair in common
-twice : (p x : Bool) → (p && x) ≡ (p && (p && x))
+twice : (p x : Bool) → (p && x) ≡ ((p && true) && (p && x))
 twice true x = refl
 twice false x = refl
 
@@ -83,14 +82,12 @@ last_runs : (n : ℕ) (s : Bytes) → spaces_last s ≡ (spaces_last (take (suc 
 unfolding spaces_last
 last_runs zero [] = refl
 last_runs zero (b ∷ []) = refl
-last_runs zero (b ∷ c ∷ s) = rw (last-cons b c s) (twice (not (is_space b) || is_space c) (spaces_last (c ∷ s)))
+last_runs zero (b ∷ c ∷ s) = twice (not (is_space b) || is_space c) (spaces_last (c ∷ s))
 last_runs (suc n) [] = refl
 last_runs (suc n) (b ∷ []) = ap spaces_last (sym (drop-nil n))
 last_runs (suc n) (b ∷ c ∷ s) =
-    last-cons b c s
-    ∙ ap (λ (x : Bool). (not (is_space b) || is_space c) && x) (last_runs n (c ∷ s))
+    ap (λ (x : Bool). (not (is_space b) || is_space c) && x) (last_runs n (c ∷ s))
     ∙ sym (and_assoc (not (is_space b) || is_space c) (spaces_last (c ∷ take (suc n) s)) (spaces_last (drop n (c ∷ s))))
-    ∙ ap (λ (x : Bool). x && spaces_last (drop n (c ∷ s))) (sym (last-cons b c (take (suc n) s)))
 
 pub esi_id-tests : (s : Bytes) (padded front back : Bool) → length s ≡ 64 → padded ≡ every is_padded s → front ≡ spaces_last (take 49 s)
     → back ≡ spaces_last (take 17 (drop 47 s)) → (((not (is_space (get_or s 0 0)) && padded) && front) && back) ≡ is_esi_id (unpad s)

@@ -1,23 +1,31 @@
--- A scan of neighbours: what it says of two bytes and of those behind them.
+-- The scan of neighbours, which does not stop early: what it has found so far, and what is left of the text.
 -- Assumes nothing.
-use mathlib.Core.Path.{◌≡◌, refl}
-use mathlib.Core.List.{List, [], ◌∷◌}
-use mathlib.Core.Bool.{Bool, true, false, not, ◌&&◌, ◌||◌}
-use Prim.Native.Nat.{ℕ}
-use Rattle.std.specs.Prelude.{fold, zip}
+use mathlib.Core.Path.{◌≡◌, sym, ◌∙◌}
+use mathlib.Core.List.{◌∷◌}
+use mathlib.Core.Bool.{Bool, not, ◌&&◌, ◌||◌, and-true, and_assoc}
+use Prim.Native.Nat.{ℕ, ◌+◌, ◌-◌, ◌≤◌, ◌<◌}
+use native.Mathlib.Omega.{arith}
+use lib.ListN.{length, get_or, drop}
 use Rattle.text.specs.Byte.{Bytes}
-use Rattle.text.proofs.Left.{left-whole}
+use Rattle.text.proofs.Left.{left-cons, left-none}
 use Rattle.padded.specs.Padding.{is_space}
 use Rattle.padded.specs.Private.{spaces_last}
 
-all_so_far : {A : Type 0} (test : A → Bool) (ok : Bool) (xs : List A) → fold (λ so_far x. so_far && test x) ok xs ≡ (ok && fold (λ so_far x. so_far && test x) true xs)
-all_so_far test true xs = refl
-all_so_far test false [] = refl
-all_so_far test false (x ∷ xs) = all_so_far test false xs
+-- i is the second of two neighbours
+module _ (s : Bytes) (i : ℕ) (ok : Bool) (some : 1 ≤ i) (inv : spaces_last s ≡ (ok && spaces_last (drop (i - 1) s))) where
+  pub last_step : i < length s
+      → spaces_last s ≡ ((ok && (not (is_space (get_or s (i - 1) 0)) || is_space (get_or s i 0))) && spaces_last (drop (i + 1 - 1) s))
+  unfolding spaces_last
+  last_step h =
+      let l : i - 1 < length s = omega arith in
+      let next : i - 1 + 1 ≡ i = omega arith in
+      let after : i + 1 - 1 ≡ i = omega arith in
+      inv ∙ rw (left-cons s (i - 1) l, next, after, left-cons s i h)
+      (sym (and_assoc ok (not (is_space (get_or s (i - 1) 0)) || is_space (get_or s i 0)) (spaces_last (get_or s i 0 ∷ drop (i + 1) s))))
 
-pair_right : ℕ × ℕ → Bool
-pair_right pair = not (is_space pair.0) || is_space pair.1
-
-pub last-cons : (b c : ℕ) (s : Bytes) → spaces_last (b ∷ c ∷ s) ≡ ((not (is_space b) || is_space c) && spaces_last (c ∷ s))
-unfolding spaces_last pair_right
-last-cons b c s = rw (left-whole (b ∷ c ∷ s) 1, left-whole (c ∷ s) 1) (all_so_far pair_right (not (is_space b) || is_space c) (zip (c ∷ s) s))
+  pub last_end : i ≡ length s → ok ≡ spaces_last s
+  unfolding spaces_last
+  last_end e =
+      let l : i - 1 < length s = omega arith in
+      let n : length s ≤ i - 1 + 1 = omega arith in
+      sym (inv ∙ rw (left-cons s (i - 1) l, left-none s (i - 1 + 1) n) (and-true ok))

@@ -22,14 +22,16 @@ fn is_padded(b: u8) -> bool
 }
 
 // Whether no space stands before another byte: each pair of neighbours is tested.
-#[tactic(auto, unfolding(crate::specs::Private::spaces_last))]
 fn spaces_last(s: &[u8]) -> bool
     requires { 0 < length s.now }
     ensures { result ≡ spaces_last s.now }
 {
-    s.iter()
-        .zip(&s[1..])
-        .fold(true, |ok, (b, c)| ok & ((*b != SPACE) | (*c == SPACE)))
+    // By index: by a fold over `zip` or `windows` the registry's test takes half as long again.
+    let mut ok = true;
+    for i in 1..s.len() {
+        ok = ok & ((s[i - 1] != SPACE) | (s[i] == SPACE));
+    }
+    ok
 }
 
 // 64 bytes: an ESI ID, padded at the end with spaces. The 63 pairs of neighbours are tested as 48 and 16, which fill whole vectors.
