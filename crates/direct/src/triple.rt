@@ -21,11 +21,14 @@ fn read_tail(t: &[u8], at: usize) -> Option<bool>
     requires { at + tail_size ≤ length t.now }
     ensures { IfSome result (λ e. take tail_size (drop at t.now) ≡ tail (status_byte e)) }
 {
-    match four(t, at) {
-        ACTUAL => Some(false),
-        ESTIMATED => Some(true),
-        _ => None,
+    let s = four(t, at);
+    if s == ACTUAL {
+        return Some(false);
     }
+    if s == ESTIMATED {
+        return Some(true);
+    }
+    None
 }
 
 // An interval with a value that a word holds, and the place behind.
