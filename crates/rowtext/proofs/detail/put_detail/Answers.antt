@@ -24,7 +24,7 @@ pub loop-interval-preserved : goal.loop-interval-preserved
 loop-interval-preserved c = interval-put _ _ _ c.loop-interval.interval-index c.args.intervals.now _ (omega arith) c.requires.room c.loop-interval.invariant c.put_interval-end.ensures
 
 pub put-requires : goal.put-requires
-put-requires c = last-room _ _ _ c.loop-interval.interval-index c.args.intervals.now (omega arith) c.requires.room c.loop-interval.invariant (omega arith)
+put-requires c = omega (arith, last-room _ _ _ c.loop-interval.interval-index c.args.intervals.now (omega arith) c.requires.room c.loop-interval.invariant (omega arith))
 
 pub returns : goal.returns
 returns c = detail_put _ _ _ c.loop-interval.interval-index c.args.intervals.now (omega arith) c.requires.room c.loop-interval.invariant c.put.ensures
