@@ -1,4 +1,2 @@
 -- Laws of the definitions, by subject; each function's proof cites them.
-pub mod Starting
-pub mod NextBatch
 pub mod Ending

@@ -1,189 +1,95 @@
-// The batches that a call works in: some lines of the piece are read, and their entries held as words.
+// The batches that a call works in: some lines of the piece are read, or the file ends, and the entries of their verdicts are held as words.
 //
-//     let mut b = start(state, piece, registry, table.len(), room);
-//     while going(b) {
-//         b = next_batch(b, piece, registry, table);     // then the caller puts b's entries into its report
-//     }
-//     let fed = answer(b);
+//     let batch = next_batch(&mut state.scan, piece, at, &index, table);     // the lines from place `at` on, as many as a batch has room for
+//     // batch.at is the place behind them; the first batch.count entries of batch.words belong behind those of the batches before
 //
-// `start` refuses the call or takes the piece. A finish is one batch, `last_batch`. A batch has its entries as words, five each, and the place in the report
-// from which on they belong; `entry_in` gives them as entries. What each function leaves is specs/Batch.antt.
+// A finish is one batch, `end_file`. What each leaves is specs/Batch.antt.
 //
-// For whoever changes it: a batch is passed by value and holds all that goes from one turn of a feed to the next, so that the calls above have only borrows
-// to pass on. It has room for the entries of the lines that `read_lines` reads before it stops.
+// For whoever changes it: a batch has room for the entries of the lines that `read_lines` reads before it stops.
 #![tactic(auto)]
 
-ghost use Rattle.std.specs.Prelude.{◌≡◌, ◌+◌, ◌*◌, ◌<◌, length};
-ghost use Rattle.report.specs.Words.{per_entry, entry_at};
-ghost use Rattle.registry.specs.Registry.{max_meters};
-ghost use Rattle.batches.specs.Batch.{Starts, Goes, Next, Ends, Small, fed_by, idle_at};
+ghost use Rattle.std.specs.Prelude.{◌≡◌, ◌-◌, ◌<◌, ◌≤◌, length};
+ghost use Rattle.units.specs.Answer.{HasRoom};
+ghost use Rattle.pieces.specs.Ran.{scan_of, Holds};
+ghost use Rattle.batches.specs.Batch.{Next, Last, lines_in};
+ghost use Rattle.plain.specs.Call.{byte_limit};
 
-mod last;
-
-use crate::last::end_file;
-use pieces::run::{BATCH_WORDS, read_lines};
-use records::Known;
+use lines::line::Line;
+use pieces::Scan;
+use pieces::run::{BATCH_WORDS, put, read_lines};
 use registry::Index;
-use report::Entry;
-use report::refusal::DONE;
-use report::words::entry_at;
-use state::refuse::number_for;
-use state::{State, sized, with_taken};
+use units::{closing, load_waiting, read_line};
 
-// What a call returns.
-#[derive(Clone, Copy)]
-pub struct Fed {
-    pub number: u32,
-    pub count: usize,
-    pub state: State,
-}
-
-// Some lines of a piece that were read: the place behind them, and their entries as words, to be put into the report from a place on.
+// The place behind the lines that were read, and their entries as words: so many are there.
 #[derive(Clone, Copy)]
 pub struct Batch {
-    pub going: bool,
-    pub number: u32,
-    pub state: State,
     pub at: usize,
-    pub from: usize,
     pub count: usize,
     pub words: [u32; BATCH_WORDS],
-    pub index: Index,
 }
 
-// A batch that has read nothing.
-fn idle(going: bool, number: u32, state: State, index: Index) -> Batch
-    ensures { result ≡ idle_at going number state index }
+// The lines from a place of the piece on, as many as a batch has room for.
+pub fn next_batch(
+    scan: &mut Scan,
+    piece: &[u8],
+    at: usize,
+    index: &Index<'_>,
+    table: &mut [u32],
+) -> Batch
+    requires room { HasRoom index.now table.old }
+    requires holds { Holds scan.old (length piece.now - at) }
+    requires left { at < length piece.now }
+    ensures { Next index.now (scan_of scan.old) piece.now at result scan.new table.old table.new }
 {
+    let mut words = [0; BATCH_WORDS];
+    let run = read_lines(scan, piece, at, index, table, &mut words);
     Batch {
-        going,
-        number,
-        state,
-        at: 0,
-        from: 0,
-        count: 0,
-        words: [0; BATCH_WORDS],
-        index,
+        at: run.at,
+        count: run.count,
+        words,
     }
 }
 
-// A feed begins: it is refused, or the piece is to be read.
-pub fn start(state: State, piece: &[u8], registry: &[u8], size: usize, room: usize) -> Batch
-    ensures { Starts state piece.now registry.now size room result }
+// How many lines a file has: bytes that are held are one more.
+fn lines_in(lines: u32, held: usize) -> u32
+    requires { lines ≤ byte_limit }
+    ensures { result ≡ lines_in lines held }
 {
-    let index = Index::of(registry);
-    let n = piece.len();
-    let number = number_for(state, index, size, room, n);
-    if number != DONE {
-        return idle(false, number, state, index);
+    if held == 0 {
+        return lines;
     }
-    idle(0 < n, DONE, with_taken(state, n), index)
+    lines + 1
 }
 
-pub fn going(b: Batch) -> bool
-    ensures { result ≡ b.going }
+// The end of the file: its last line, if any, and the unit that is open. What is left of the scan is of no use.
+pub fn end_file(scan: &mut Scan, index: &Index<'_>, table: &mut [u32]) -> Batch
+    requires room { HasRoom index.now table.old }
+    requires holds { Holds scan.old 0 }
+    ensures { Last index.now (scan_of scan.old) result table.old table.new }
 {
-    b.going
-}
-
-// An index's arrays have room for the most meters.
-fn sized_index(i: Index) -> Index
-    ensures { (result ≡ i) × (length result.meters ≡ max_meters) × (length result.owners ≡ max_meters) }
-{
-    i
-}
-
-// The lines behind a batch, as many as the next one has room for.
-pub fn next_batch(b: Batch, piece: &[u8], registry: &[u8], table: &mut [u32]) -> Batch
-    requires { Goes b piece.now registry.now table.old }
-    ensures { Next b piece.now registry.now table.old table.new result }
-{
-    let state = b.state;
-    let s = sized(state);
-    let unit = s.unit;
-    let mut kept = s.kept;
-    let mut id = s.id;
-    let mut sender = s.sender;
-    let mut words = s.words;
-    let mut out = [0; BATCH_WORDS];
-    let places = b.index;
-    let index = sized_index(places);
-    let meters = index.meters;
-    let owners = index.owners;
-    let window = index.window;
-    let known = Known {
-        count: index.count,
-        window,
-        hint: 0,
+    // where none is held, the line is empty, and does nothing
+    let line = Line {
+        body: &scan.kept[..scan.held],
+        cr: false,
     };
-    let r = read_lines(
-        unit,
-        s.lines,
-        s.held,
-        piece,
-        b.at,
-        registry,
-        &meters,
-        &owners,
-        known,
-        &mut kept,
-        &mut id,
-        &mut sender,
-        &mut words,
-        table,
-        &mut out,
-    );
-    let next = r.unit;
-    Batch {
-        going: r.at < piece.len(),
-        number: DONE,
-        state: State {
-            kept,
-            held: r.held,
-            taken: s.taken,
-            lines: r.lines,
-            unit: next,
-            id,
-            sender,
-            words,
-        },
-        at: r.at,
-        from: b.from + b.count,
-        count: r.count,
-        words: out,
+    let read = read_line(
+        scan.unit,
+        scan.lines + 1,
+        line,
         index,
+        0,
+        &mut scan.parts,
+        table,
+    );
+    load_waiting(read.unit, index, &scan.parts, table);
+    let last = closing(read.unit, lines_in(scan.lines, scan.held) + 1);
+    let mut words = [0; BATCH_WORDS];
+    let mut count = put(&mut words, 0, read.first);
+    count = put(&mut words, count, read.second);
+    count = put(&mut words, count, last);
+    Batch {
+        at: 0,
+        count,
+        words,
     }
-}
-
-// Entry i of a batch.
-pub fn entry_in(b: Batch, i: usize) -> Entry
-    requires { i * per_entry + 4 < length b.words }
-    ensures { result ≡ entry_at b.words i }
-{
-    let words = b.words;
-    entry_at(&words, i)
-}
-
-pub fn answer(b: Batch) -> Fed
-    requires { Small b }
-    ensures { result ≡ fed_by b }
-{
-    let state = b.state;
-    Fed {
-        number: b.number,
-        count: b.from + b.count,
-        state,
-    }
-}
-
-// A finish: it is refused, or the file ends.
-pub fn last_batch(state: State, registry: &[u8], table: &mut [u32], room: usize) -> Batch
-    ensures { Ends state registry.now table.old room table.new result }
-{
-    let index = Index::of(registry);
-    let number = number_for(state, index, table.len(), room, 0);
-    if number != DONE {
-        return idle(false, number, state, index);
-    }
-    end_file(state, index, registry, table)
 }

@@ -15,6 +15,9 @@ const FIRST_YEAR: u32 = 2007;
 
 const LAST_YEAR: u32 = 2099;
 
+// From January 2007 to December 2099.
+const MONTHS: usize = (LAST_YEAR - FIRST_YEAR + 1) as usize * 12;
+
 // 20991231
 pub const LAST_DAY: u32 = 33967;
 

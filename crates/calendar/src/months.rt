@@ -1,5 +1,7 @@
+use crate::MONTHS;
+
 // The day number of the first day of each month, January 2007 to December 2099; a comment ends each year.
-pub static FIRST_DAYS: [u16; 1116] = [
+pub static FIRST_DAYS: [u16; MONTHS] = [
     0, 31, 59, 90, 120, 151, 181, 212, 243, 273, 304, 334, // 2007
     365, 396, 425, 456, 486, 517, 547, 578, 609, 639, 670, 700, // 2008
     731, 762, 790, 821, 851, 882, 912, 943, 974, 1004, 1035, 1065, // 2009

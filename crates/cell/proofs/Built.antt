@@ -38,10 +38,6 @@ module _ (w : Words) (i : ℕ) (v : Interval) where
   unfolding with_interval
   put-plain e = rw e
 
-pub put-long : (w : Words) (k x i : ℕ) (out : Words) → out ≡ with_mark (set w k x) i → length out ≡ length w
-unfolding with_mark
-put-long w k x i out e = ap length e ∙ simp length-set
-
 -- the words that a mark, if it is set, leaves
 marked_other : (e : Bool) (w : Words) (i k : ℕ) → (k ≡ mark_word i → ⊥) → get_or (marked_if e w i) k 0 ≡ get_or w k 0
 unfolding with_mark

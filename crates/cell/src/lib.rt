@@ -13,8 +13,8 @@
 // elsewhere, in code or in a proof; what a built read says is `Holds` of specs/Read.antt, which a new part of the cell must join.
 #![tactic(auto)]
 
-ghost use Rattle.std.specs.Prelude.{◌≡◌, ◌<◌, length};
-ghost use Rattle.cell.specs.Layout.{width, max_intervals};
+ghost use Rattle.std.specs.Prelude.{◌≡◌, ◌<◌};
+ghost use Rattle.cell.specs.Layout.{max_intervals};
 ghost use Rattle.cell.specs.Read.{cleared, begun, with_stamp, with_interval, interval_in, stamp_in};
 
 use crate::mark::{is_marked, set_mark};
@@ -23,10 +23,13 @@ use headers::time::Stamp;
 
 pub mod mark;
 
-// The words of one cell, to be built up and then loaded.
+// The words of a cell, of the table or of a read that is built.
+pub type Words = [u32; Cell::WIDTH];
+
+// One cell, to be built up and then loaded.
 #[derive(Clone, Copy)]
 pub struct Cell {
-    pub words: [u32; Cell::WIDTH],
+    pub words: Words,
 }
 
 impl Cell {
@@ -59,40 +62,28 @@ impl Cell {
     pub fn begun(count: u32) -> Cell
         ensures { result.words ≡ begun count }
     {
-        let mut words = [0; Cell::WIDTH];
-        words[Cell::COUNT] = count;
-        Cell { words }
+        let mut cell = Cell::cleared();
+        begin(&mut cell.words, count);
+        cell
     }
 }
 
-// Clears the words of a cell.
-#[tactic(auto, unfolding(crate::specs::Read::cleared))]
-fn clear(words: &mut [u32])
-    requires { length words.old ≡ width }
-    ensures { words.new ≡ cleared }
-{
-    words.fill(0);
-}
-
 // Begins a read of so many intervals, in words that another read may have used.
-pub fn begin(words: &mut [u32], count: u32)
-    requires { length words.old ≡ width }
+pub fn begin(words: &mut Words, count: u32)
     ensures { words.new ≡ begun count }
 {
-    clear(words);
+    *words = [0; Cell::WIDTH];
     words[Cell::COUNT] = count;
 }
 
-pub fn put_stamp(words: &mut [u32], stamp: Stamp)
-    requires { length words.old ≡ width }
+pub fn put_stamp(words: &mut Words, stamp: Stamp)
     ensures { words.new ≡ with_stamp words.old stamp }
 {
     words[Cell::DATE] = stamp.date;
     words[Cell::CLOCK] = stamp.clock;
 }
 
-pub fn stamp_in(words: &[u32]) -> Stamp
-    requires { length words.now ≡ width }
+pub fn stamp_in(words: &Words) -> Stamp
     ensures { result ≡ stamp_in words.now }
 {
     Stamp {
@@ -102,8 +93,8 @@ pub fn stamp_in(words: &[u32]) -> Stamp
 }
 
 // Puts interval i.
-pub fn put_interval(words: &mut [u32], i: usize, interval: Interval)
-    requires { (i < max_intervals) × (length words.old ≡ width) }
+pub fn put_interval(words: &mut Words, i: usize, interval: Interval)
+    requires { i < max_intervals }
     ensures { words.new ≡ with_interval words.old i interval }
 {
     words[Cell::VALUES + i] = interval.wh;
@@ -113,20 +104,12 @@ pub fn put_interval(words: &mut [u32], i: usize, interval: Interval)
 }
 
 // Interval i of a read.
-pub fn interval_in(words: &[u32], i: usize) -> Interval
-    requires { (i < max_intervals) × (length words.now ≡ width) }
+pub fn interval_in(words: &Words, i: usize) -> Interval
+    requires { i < max_intervals }
     ensures { result ≡ interval_in words.now i }
 {
     Interval {
         wh: words[Cell::VALUES + i],
         estimated: is_marked(words, i),
     }
-}
-
-// The words of one cell, put in the place of another's.
-pub fn copy(to: &mut [u32], from: &[u32])
-    requires { (length to.old ≡ width) × (length from.now ≡ width) }
-    ensures { to.new ≡ from.now }
-{
-    to.copy_from_slice(from);
 }

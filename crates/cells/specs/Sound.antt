@@ -1,19 +1,17 @@
 -- The cell at an address, sound or in the stages that calls ask for, or the refusal. Document 01, "What a call returns": 2, 3, 6, 7, 8, tested in this order.
 -- Assumes nothing.
-use Rattle.std.specs.Prelude.{◌≡◌, Bool, not, ℕ, ◌+◌, ◌*◌, ◌≤◌, ltb, length, take, drop}
-use Rattle.calendar.specs.Day.{last_day}
+use Rattle.std.specs.Prelude.{Result, Bool, not, ℕ, ◌+◌, ◌*◌, ltb, length}
 use Rattle.calendar.specs.Intervals.{intervals_of}
 use Rattle.text.specs.Byte.{Bytes}
-use Rattle.report.specs.Outcome.{Outcome, passed, refused, require, ◌>>=◌, ◌>>◌}
+use Rattle.report.specs.Outcome.{Outcome, passed, require, answers, ◌>>=◌, ◌>>◌}
 use Rattle.registry.specs.Registry.{is_registry, window_is}
-use Rattle.registry.specs.declared.entry.Window.{Window}
 use Rattle.cell.specs.Layout.{Words, width}
 use Rattle.reads.specs.Load.{cell_at, holds_none}
 use Rattle.reads.specs.Sound.{is_sound}
 use Rattle.report.specs.Refusal.{bad_registry, short_table, no_cell, empty_cell, unsound_cell}
-use Rattle.cells.specs.Address.{meter_count, cells_of, table_size, is_address, cell_of, Sizes}
-use Rattle.cells.specs.declared.CellFound.{CellFound}
-use Rattle.cells.specs.declared.CellFound.TheVariants.{At, Refused}
+use Rattle.cells.specs.Address.{cells_of, table_size, is_address, cell_of}
+use Rattle.report.specs.declared.refusal.Refusal.{Refusal}
+use denote.Ref.{Bor}
 
 -- 2 and 3: the registry breaks a rule; the table is shorter than its cells
 unfoldable pub for_table : Bool → ℕ → ℕ → Outcome (Unit {0})
@@ -53,20 +51,6 @@ sound_cell reg table m c d = do
   require (is_address reg m c d) no_cell
   sound_words (day_intervals reg d) (cell_at table (cell_of reg m c d))
 
--- what an index tells of its registry, where a cell is looked for
-pub record Knows (reg : Bytes) (legal : Bool) (meters : ℕ) (window : Window) : Type 0 where
-  pub rules : legal ≡ is_registry reg
-  pub counted : meter_count reg ≡ meters
-  pub windowed : window ≡ window_is reg
-  pub sizes : Sizes meters window.days
-  pub ends : window.first + window.days ≤ last_day + 1
-
--- a cell is answered by where its words begin in the table
-abbrev pub cell_says : CellFound → Words → Outcome Words
-cell_says (At start) table = passed (take width (drop start table))
-cell_says (Refused number) table = refused number
-
--- the answer is right, and a cell's words are all in the table
-pub record CellIs (r : CellFound) (table : Words) (cell : Outcome Words) : Type 0 where
-  pub says : cell_says r table ≡ cell
-  pub within : (start : ℕ) → r ≡ At start → start + width ≤ length table
+-- a cell is answered by that part of the table
+abbrev pub cell_says : Result (Bor Words) Refusal → Outcome Words
+cell_says r = answers r >>= (λ words. passed words.now)

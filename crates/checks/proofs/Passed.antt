@@ -17,11 +17,9 @@ use Rattle.report.proofs.Passing.{then_passed, require-passed}
 use Rattle.registry.specs.Registry.{meters_of, window_is}
 use Rattle.registry.specs.Index.{meter_at, find_meter}
 use Rattle.registry.specs.declared.entry.Window.{Window}
-use Rattle.registry.specs.declared.Found.{Found}
-use Rattle.registry.specs.declared.Found.TheVariants.{At, Unknown}
+use Rattle.std.specs.Prelude.{Option, Some, None}
 use Rattle.registry.proofs.Halves.{found-meter}
-use Rattle.checks.specs.Check.{in_window, flag_checks, day_in, meter_checks, of_meter, by_meter, judge}
-use Rattle.checks.specs.declared.Judgement.TheVariants.{Passed}
+use Rattle.checks.specs.Check.{in_window, flag_checks, day_in, meter_checks, Judgement, Passed, of_meter, by_meter, judge}
 
 day-within : (w : Window) (date d : ℕ) → day_in w date ≡ passed d → d < w.days
 unfolding day_in in_window
@@ -41,23 +39,23 @@ day-within w date d e =
 module _ (reg id sender : Bytes) (date m d : ℕ) where
   -- the meter is found, and its checks give the window day
   abbrev pub Judged : Type 0
-  Judged = (find_meter id (meters_of reg) ≡ At m) × (meter_checks (window_is reg) (meter_at reg m) sender date ≡ passed d)
+  Judged = (find_meter id (meters_of reg) ≡ Some m) × (meter_checks (window_is reg) (meter_at reg m) sender date ≡ passed d)
 
   pub judged : judge reg id sender date ≡ Passed m d → Judged
   unfolding judge
   judged = by-found (find_meter id (meters_of reg)) refl
     where
-      by-checks : (n : ℕ) (o : Outcome ℕ) → find_meter id (meters_of reg) ≡ At n
+      by-checks : (n : ℕ) (o : Outcome ℕ) → find_meter id (meters_of reg) ≡ Some n
           → meter_checks (window_is reg) (meter_at reg n) sender date ≡ o → of_meter n o ≡ Passed m d → Judged
       by-checks n (passed x) f q e =
           let a : n ≡ m = cc in
           let b : x ≡ d = cc in
-          (f ∙ ap At a, rw (← a, ← b) q)
+          (f ∙ ap Some a, rw (← a, ← b) q)
       by-checks n (refused v) f q e = absurd (let z : ◌≡◌ {A = ℕ} 0 1 = cc in omega arith)
 
-      by-found : (f : Found) → find_meter id (meters_of reg) ≡ f → by_meter f reg sender date ≡ Passed m d → Judged
-      by-found Unknown f e = absurd (let z : ◌≡◌ {A = ℕ} 0 1 = cc in omega arith)
-      by-found (At n) f e = by-checks n (meter_checks (window_is reg) (meter_at reg n) sender date) f refl e
+      by-found : (f : Option ℕ) → find_meter id (meters_of reg) ≡ f → by_meter f reg sender date ≡ Passed m d → Judged
+      by-found None f e = absurd (let z : ◌≡◌ {A = ℕ} 0 1 = cc in omega arith)
+      by-found (Some n) f e = by-checks n (meter_checks (window_is reg) (meter_at reg n) sender date) f refl e
 
   pub judged-within : judge reg id sender date ≡ Passed m d → (m < length (meters_of reg)) × (d < (window_is reg).days)
   unfolding meter_checks

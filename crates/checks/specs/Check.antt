@@ -1,24 +1,16 @@
 -- The registry checks 30 to 35 of a record that has all its rows. Document 01, "What a call returns".
 -- Assumes nothing.
-use Rattle.std.specs.Prelude.{◌≡◌, List, Bool, not, ◌&&◌, ℕ, suc, ◌+◌, ◌-◌, ◌/◌, ◌%◌, ◌≤◌, eqb, leb, ltb, length}
+use Rattle.std.specs.Prelude.{Option, Some, None, Result, Ok, Err, Bool, not, ◌&&◌, ℕ, suc, ◌+◌, ◌-◌, ◌/◌, ◌%◌, eqb, leb, ltb}
 use Rattle.calendar.specs.Date.{is_date}
 use Rattle.calendar.specs.Day.{day_number}
 use Rattle.text.specs.Byte.{Bytes, equals}
-use Rattle.text.specs.Identifier.{esi_id_size}
 use Rattle.report.specs.Outcome.{Outcome, passed, refused, require, ◌>>◌}
-use Rattle.report.specs.Verdict.{unknown_meter, not_owner, read_by_ercot, no_interval_data, not_idr, outside_window}
-use Rattle.registry.specs.Registry.{Meter, max_meters, meters_of, window_is}
-use Rattle.registry.specs.Entry.{owner_size}
-use Rattle.registry.specs.Index.{Places, MeterAt, OwnerAt, meter_at, find_meter}
+use Rattle.report.specs.Verdict.{unknown_meter, not_owner, read_by_ercot, no_interval_data, not_idr, outside_window, verdict_number}
+use Rattle.registry.specs.Registry.{Meter, meters_of, window_is}
+use Rattle.registry.specs.Index.{meter_at, find_meter}
 use Rattle.registry.specs.declared.entry.Window.{Window}
-use Rattle.registry.specs.declared.Found.{Found}
-use Rattle.registry.specs.declared.Found.TheVariants.{At, Unknown}
-use Rattle.checks.specs.declared.Judgement.{Judgement}
-use Rattle.checks.specs.declared.Judgement.TheVariants.{Passed, Refused}
-use Rattle.checks.specs.declared.FlagCheck.{FlagCheck}
-use Rattle.checks.specs.declared.FlagCheck.TheVariants.{Passed as FlagsRight, Refused as FlagsWrong}
-use Rattle.checks.specs.declared.WindowDay.{WindowDay}
-use Rattle.checks.specs.declared.WindowDay.TheVariants.{Is, Outside}
+use Rattle.report.specs.declared.verdict.Fault.{Fault}
+use Rattle.checks.specs.declared.Cleared.{Cleared}
 
 -- the flags, by what each is worth: ERCOT reads the meter, it is set up for interval data, its profile is IDR
 abbrev pub ercot_flag : ℕ
@@ -57,33 +49,25 @@ meter_checks w meter sender date = do
   flag_checks meter.flags
   day_in w date
 
+-- what the checks give: meter and window day, each from 0; or the verdict, and the meter as the report numbers it: from 1, 0 if unknown
+pub data Judgement : Type 0 where
+  Passed : ℕ → ℕ → Judgement
+  Refused : ℕ → ℕ → Judgement
+
 -- a refusal with the meter as the report numbers it, from 1
 abbrev pub of_meter : ℕ → Outcome ℕ → Judgement
 of_meter m (passed d) = Passed m d
 of_meter m (refused v) = Refused v (suc m)
 
-abbrev pub by_meter : Found → Bytes → Bytes → ℕ → Judgement
-by_meter Unknown reg sender date = Refused unknown_meter 0
-by_meter (At m) reg sender date = of_meter m (meter_checks (window_is reg) (meter_at reg m) sender date)
+abbrev pub by_meter : Option ℕ → Bytes → Bytes → ℕ → Judgement
+by_meter None reg sender date = Refused unknown_meter 0
+by_meter (Some m) reg sender date = of_meter m (meter_checks (window_is reg) (meter_at reg m) sender date)
 
 -- ESI ID and Sender are padded as in the registry
 unfoldable pub judge : Bytes → Bytes → Bytes → ℕ → Judgement
 judge reg id sender date = by_meter (find_meter id (meters_of reg)) reg sender date
 
--- what the checks are asked with: the index of a registry, and an ESI ID and a Sender of the registry's sizes
-pub record Asks (reg : Bytes) (meters owners : List ℕ) (count : ℕ) (window : Window) (id sender : Bytes) : Type 0 where
-  pub meter_places : Places reg MeterAt meters count
-  pub owner_places : Places reg OwnerAt owners count
-  pub most : count ≤ max_meters
-  pub windowed : window ≡ window_is reg
-  pub id_sized : length id ≡ esi_id_size
-  pub sender_sized : length sender ≡ owner_size
-
--- the helpers' answers
-abbrev pub flags_say : FlagCheck → Outcome (Unit {0})
-flags_say FlagsRight = passed tt
-flags_say (FlagsWrong v) = refused v
-
-abbrev pub day_says : WindowDay → Outcome ℕ
-day_says (Is d) = passed d
-day_says Outside = refused outside_window
+-- what the code answers
+abbrev pub judged_says : Result Cleared Fault → Judgement
+judged_says (Ok c) = Passed c.meter c.day
+judged_says (Err f) = Refused (verdict_number f.verdict) f.meter

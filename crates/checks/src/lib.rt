@@ -3,15 +3,19 @@
 // For whoever changes it: the checks and their order are `meter_checks` of specs/Check.antt and `meter_checks` here.
 #![tactic(auto)]
 
-ghost use Rattle.std.specs.Prelude.{◌≡◌, ◌<◌};
-ghost use Rattle.checks.specs.Check.{has_flag, flag_checks, day_in, day_says, flags_say, judge as judged, Asks};
+ghost use Rattle.std.specs.Prelude.{◌≡◌, ◌<◌, length};
+ghost use Rattle.text.specs.Identifier.{esi_id_size};
+ghost use Rattle.report.specs.Outcome.{says};
+ghost use Rattle.registry.specs.Entry.{owner_size};
+ghost use Rattle.registry.specs.Registry.{meters_of, window_is};
+ghost use Rattle.registry.specs.Index.{meter_at};
+ghost use Rattle.checks.specs.Check.{has_flag, flag_checks, day_in, meter_checks, judged_says, judge as judged};
 
 use calendar::day_number;
+use registry::Index;
 use registry::entry::Window;
-use registry::{Found, find, flags, is_owned};
-use report::verdict::{
-    NO_INTERVAL_DATA, NOT_IDR, NOT_OWNER, OUTSIDE_WINDOW, READ_BY_ERCOT, UNKNOWN_METER,
-};
+use report::require;
+use report::verdict::{Fault, Verdict};
 
 const ERCOT_FLAG: u8 = 1;
 
@@ -19,23 +23,11 @@ const INTERVAL_FLAG: u8 = 2;
 
 const IDR_FLAG: u8 = 4;
 
-// Meter and window day, each from 0; or the verdict, and the meter as the report numbers it: from 1, 0 if unknown.
-#[derive(Clone, Copy)]
-pub enum Judgement {
-    Passed(usize, usize),
-    Refused(u32, u32),
-}
-
-#[derive(Clone, Copy)]
-pub enum WindowDay {
-    Is(usize),
-    Outside,
-}
-
-#[derive(Clone, Copy)]
-pub enum FlagCheck {
-    Passed,
-    Refused(u32),
+// The meter of a record that passed, and its window day, each from 0.
+#[derive(Clone, Copy, Debug, PartialEq, Eq)]
+pub struct Cleared {
+    pub meter: usize,
+    pub day: usize,
 }
 
 fn has_flag(flag: u8, flags: u8) -> bool
@@ -45,63 +37,58 @@ fn has_flag(flag: u8, flags: u8) -> bool
     flags / flag % 2 == 1
 }
 
-fn flag_checks(sum: u8) -> FlagCheck
-    ensures { flags_say result ≡ flag_checks sum }
+fn flag_checks(sum: u8) -> Result<(), Verdict>
+    ensures { says result ≡ flag_checks sum }
 {
-    if has_flag(ERCOT_FLAG, sum) {
-        return FlagCheck::Refused(READ_BY_ERCOT);
-    }
-    if !has_flag(INTERVAL_FLAG, sum) {
-        return FlagCheck::Refused(NO_INTERVAL_DATA);
-    }
-    if !has_flag(IDR_FLAG, sum) {
-        return FlagCheck::Refused(NOT_IDR);
-    }
-    FlagCheck::Passed
+    require(!has_flag(ERCOT_FLAG, sum), Verdict::ReadByErcot)?;
+    require(has_flag(INTERVAL_FLAG, sum), Verdict::NoIntervalData)?;
+    require(has_flag(IDR_FLAG, sum), Verdict::NotIdr)
 }
 
-fn window_day(window: Window, date: u32) -> WindowDay
-    ensures { day_says result ≡ day_in window date }
+fn window_day(window: Window, date: u32) -> Result<usize, Verdict>
+    ensures { says result ≡ day_in window date }
 {
     let Some(n) = day_number(date) else {
-        return WindowDay::Outside;
+        return Err(Verdict::OutsideWindow);
     };
-    if n < window.first {
-        return WindowDay::Outside;
-    }
-    if window.days <= n - window.first {
-        return WindowDay::Outside;
-    }
-    WindowDay::Is((n - window.first) as usize)
+    let Some(day) = n.checked_sub(window.first) else {
+        return Err(Verdict::OutsideWindow);
+    };
+    require(day < window.days, Verdict::OutsideWindow)?;
+    Ok(day as usize)
+}
+
+// The checks of a known meter; they give the window day.
+fn meter_checks(index: &Index<'_>, meter: usize, sender: &[u8], date: u32) -> Result<usize, Verdict>
+    requires within { meter < length (meters_of index.now) }
+    requires sized { length sender.now ≡ owner_size }
+    ensures { says result ≡ meter_checks (window_is index.now) (meter_at index.now meter) sender.now date }
+{
+    require(index.is_owned(meter, sender), Verdict::NotOwner)?;
+    flag_checks(index.flags(meter))?;
+    window_day(index.window(), date)
 }
 
 // The checks of a record: by its ESI ID and Sender, padded as in the registry, and its date. The hint is the meter to try first.
 pub fn judge(
-    registry: &[u8],
-    meters: &[usize],
-    owners: &[usize],
-    count: usize,
-    window: Window,
+    index: &Index<'_>,
     hint: usize,
     id: &[u8],
     sender: &[u8],
     date: u32,
-) -> Judgement
-    requires { Asks registry.now meters.now owners.now count window id.now sender.now }
-    ensures { result ≡ judged registry.now id.now sender.now date }
+) -> Result<Cleared, Fault>
+    requires id_sized { length id.now ≡ esi_id_size }
+    requires sender_sized { length sender.now ≡ owner_size }
+    ensures { judged_says result ≡ judged index.now id.now sender.now date }
 {
-    let Found::At(m) = find(registry, meters, count, hint, id) else {
-        return Judgement::Refused(UNKNOWN_METER, 0);
+    let Some(meter) = index.find(hint, id) else {
+        return Err(Fault::from(Verdict::UnknownMeter));
     };
-    let meter = (m + 1) as u32;
-    if !is_owned(registry, owners, count, m, sender) {
-        return Judgement::Refused(NOT_OWNER, meter);
-    }
-    match flag_checks(flags(registry, meters, count, m)) {
-        FlagCheck::Refused(verdict) => Judgement::Refused(verdict, meter),
-        FlagCheck::Passed => match window_day(window, date) {
-            WindowDay::Outside => Judgement::Refused(OUTSIDE_WINDOW, meter),
-            WindowDay::Is(d) => Judgement::Passed(m, d),
-        },
+    match meter_checks(index, meter, sender, date) {
+        Ok(day) => Ok(Cleared { meter, day }),
+        Err(verdict) => Err(Fault {
+            verdict,
+            meter: (meter + 1) as u32,
+        }),
     }
 }

@@ -6,8 +6,10 @@ ghost use Rattle.details.specs.Detail.{status_of, interval_of, detail_of, row_de
 ghost use Rattle.lines.specs.Answer.{line_of};
 
 use crate::value::read_value;
+use lines::line::Line;
 use lines::row::begin;
-use report::verdict::{Verdict, require};
+use report::require;
+use report::verdict::Verdict;
 use text::bytes::{is_empty, same};
 use text::fields::{after, field};
 
@@ -81,12 +83,12 @@ fn read_fields(line: &[u8]) -> Result<Row, Verdict>
 }
 
 // Detail row k, from 0. Its code ends with k's last two digits.
-pub fn read_detail(line: &[u8], cr: bool, k: u32) -> Result<Row, Verdict>
-    ensures { says result ≡ row_detail k (line_of line.now cr) }
+pub fn read_detail(line: Line<'_>, k: u32) -> Result<Row, Verdict>
+    ensures { says result ≡ row_detail k (line_of line.entry) }
 {
     let tens = b'0' + (k / 10 % 10) as u8;
     let ones = b'0' + (k % 10) as u8;
     let code = [b'1', b'0', b'0', b'0', b'0', b'0', tens, ones];
-    begin(line, cr, &code, 14)?;
-    read_fields(line)
+    begin(line, &code, 14)?;
+    read_fields(line.body)
 }

@@ -4,148 +4,145 @@
 
 mod show;
 
-use show::{detail, four, heading, odd, one, thirty, three, two};
+use print::heading;
+use show::{detail, four, odd, one, thirty, three, two};
 use std::io;
 
 fn row_one(rt: &impl Print) -> io::Result<()> {
-    heading(rt, b"row one: ESI ID, channel, day")?;
+    heading(rt, "row one: ESI ID, channel, day")?;
     one(
         rt,
-        b"00000001,100000000000000,4,20080510000000,20080510235900,Y,N",
+        "00000001,100000000000000,4,20080510000000,20080510235900,Y,N",
     )?;
     one(
         rt,
-        b"00000001,100000000000000,1,20080510000000,20080510235900,Y,N",
+        "00000001,100000000000000,1,20080510000000,20080510235900,Y,N",
     )?;
     one(
         rt,
-        b"00000002,100000000000000,4,20080510000000,20080510235900,Y,N",
+        "00000002,100000000000000,4,20080510000000,20080510235900,Y,N",
     )?;
     one(
         rt,
-        b"00000001,100000000000000,4,20080510000000,20080510235900",
+        "00000001,100000000000000,4,20080510000000,20080510235900",
     )?;
     one(
         rt,
-        b"00000001,100000000000000,,20080510000000,20080510235900,Y,N",
+        "00000001,100000000000000,,20080510000000,20080510235900,Y,N",
     )?;
     one(
         rt,
-        b"00000001,100000000000000,,20080510000000,20080510235900,Y,Y",
+        "00000001,100000000000000,,20080510000000,20080510235900,Y,Y",
     )?;
     one(
         rt,
-        b"00000001,100000000000000,4,20080510000000,20080509235900,Y,N",
+        "00000001,100000000000000,4,20080510000000,20080509235900,Y,N",
     )
 }
 
 fn row_two(rt: &impl Print) -> io::Result<()> {
-    heading(rt, b"row two")?;
-    two(rt, b"00000002,0,0,0,,0,,900,01,1,-1,0.0,0.0,CST")?;
-    two(rt, b"00000002,,,,,,,900,01,,,,,CST")?;
-    two(rt, b"00000002,0,0,0,0,0,0,900,01")?;
-    two(rt, b"00000002,,,,,,,600,01,,,,,CST")?;
-    two(rt, b"00000003,0,0,0,0,0,0,900,01,1,-1,0.0,0.0,CST")
+    heading(rt, "row two")?;
+    two(rt, "00000002,0,0,0,,0,,900,01,1,-1,0.0,0.0,CST")?;
+    two(rt, "00000002,,,,,,,900,01,,,,,CST")?;
+    two(rt, "00000002,0,0,0,0,0,0,900,01")?;
+    two(rt, "00000002,,,,,,,600,01,,,,,CST")?;
+    two(rt, "00000003,0,0,0,0,0,0,900,01,1,-1,0.0,0.0,CST")
 }
 
 fn row_three(rt: &impl Print) -> io::Result<()> {
-    heading(rt, b"row three")?;
-    three(rt, b"00000003,UNIQUETRANID0123456789")?;
-    three(rt, b"00000003,")?;
-    three(rt, b"00000002,UNIQUETRANID0123456789")?;
-    three(rt, b"00000004,UNIQUETRANID0123456789")
+    heading(rt, "row three")?;
+    three(rt, "00000003,UNIQUETRANID0123456789")?;
+    three(rt, "00000003,")?;
+    three(rt, "00000002,UNIQUETRANID0123456789")?;
+    three(rt, "00000004,UNIQUETRANID0123456789")
 }
 
 fn row_four(rt: &impl Print) -> io::Result<()> {
-    heading(rt, b"row four: stamp")?;
-    four(rt, b"00000004,20080511220000,M")?;
-    four(rt, b"00000004,20080511220000,A")?;
-    four(rt, b"00000004,20080511220000")?;
-    four(rt, b"00000004,,M")?;
-    four(rt, b"00000005,20080511220000,M")
+    heading(rt, "row four: stamp")?;
+    four(rt, "00000004,20080511220000,M")?;
+    four(rt, "00000004,20080511220000,A")?;
+    four(rt, "00000004,20080511220000")?;
+    four(rt, "00000004,,M")?;
+    four(rt, "00000005,20080511220000,M")
 }
 
 fn row_thirty(rt: &impl Print) -> io::Result<()> {
-    heading(rt, b"row thirty: Sender")?;
+    heading(rt, "row thirty: Sender")?;
     thirty(
         rt,
-        b"00000030,ATTRIBUTE_VALUE_PAIRS,MRE=666666666,Sender=666666666,Receiver=183529049,REP=111111111",
+        "00000030,ATTRIBUTE_VALUE_PAIRS,MRE=666666666,Sender=666666666,Receiver=183529049,REP=111111111",
     )?;
     thirty(
         rt,
-        b"00000030,ATTRIBUTE_VALUE_PAIRS,MRE=666666666,Sender=666666666,Receiver=183529049,REP=",
+        "00000030,ATTRIBUTE_VALUE_PAIRS,MRE=666666666,Sender=666666666,Receiver=183529049,REP=",
     )?;
     thirty(
         rt,
-        b"00000030,ATTRIBUTE_VALUE_PAIRS,MRE=666666666,Sender=666666666,Receiver=183529049,",
+        "00000030,ATTRIBUTE_VALUE_PAIRS,MRE=666666666,Sender=666666666,Receiver=183529049,",
     )?;
     thirty(
         rt,
-        b"00000030,ATTRIBUTE_VALUE_PAIRS,MRE=,Sender=666666666,Receiver=183529049,REP=111111111",
+        "00000030,ATTRIBUTE_VALUE_PAIRS,MRE=,Sender=666666666,Receiver=183529049,REP=111111111",
     )?;
     thirty(
         rt,
-        b"00000030,ATTRIBUTE_VALUE_PAIRS,MRE=666666666,666666666,Receiver=183529049,REP=111111111",
+        "00000030,ATTRIBUTE_VALUE_PAIRS,MRE=666666666,666666666,Receiver=183529049,REP=111111111",
     )?;
     thirty(
         rt,
-        b"00000030,ATTRIBUTE_VALUE_PAIRS,MRE=666666666,Sender=666666666,Receiver=666666666,REP=111111111",
+        "00000030,ATTRIBUTE_VALUE_PAIRS,MRE=666666666,Sender=666666666,Receiver=666666666,REP=111111111",
     )?;
     thirty(
         rt,
-        b"00000005,ATTRIBUTE_VALUE_PAIRS,MRE=666666666,Sender=666666666,Receiver=183529049,REP=111111111",
+        "00000005,ATTRIBUTE_VALUE_PAIRS,MRE=666666666,Sender=666666666,Receiver=183529049,REP=111111111",
     )?;
     thirty(
         rt,
-        b"00000030,,MRE=666666666,Sender=666666666,Receiver=183529049,REP=111111111",
+        "00000030,,MRE=666666666,Sender=666666666,Receiver=183529049,REP=111111111",
     )?;
     thirty(
         rt,
-        b"00000030,ATTRIBUTE_VALUE_PAIRS,MRE=666666666,Sender=666666666,Receiver=183529049,",
+        "00000030,ATTRIBUTE_VALUE_PAIRS,MRE=666666666,Sender=666666666,Receiver=183529049,",
     )
 }
 
 fn detail_rows(rt: &impl Print) -> io::Result<()> {
-    heading(rt, b"detail rows: four watt hours with their status")?;
-    detail(rt, 0, b"10000000,68.29,A,,69.17,A,,67.99,A,,67.99,A,,")?;
-    detail(rt, 1, b"10000001,66.81,E,,66.52,E,,67.11,E,,67.11,E,,")?;
-    detail(rt, 3, b"10000003,67.11,A,,66.52,A,,66.81,E,,66.82,E,,")?;
-    heading(rt, b"all detailed rows have the same sort code")?;
-    detail(rt, 0, b"10000000,68.29,A,,69.17,A,,67.99,A,,67.99,A,,")?;
-    detail(rt, 1, b"10000000,68.29,A,,69.17,A,,67.99,A,,67.99,A,,")?;
-    detail(rt, 2, b"10000000,68.29,A,,69.17,A,,67.99,A,,67.99,A,,")?;
-    heading(rt, b"the empty value's comma is missing; one read a row")?;
-    detail(rt, 0, b"10000000,68.29,A,69.17,A,67.99,A,67.99,A,")?;
-    detail(rt, 0, b"10000000,68.29,A,,")?;
-    detail(rt, 1, b"10000001,69.17,A,,")?;
-    detail(rt, 2, b"10000002,67.99,A,,")?;
-    detail(rt, 3, b"10000003,67.99,A,,")?;
-    heading(rt, b"decimals, missing intervals, status codes")?;
-    detail(rt, 0, b"10000000,.2948,A,,.17,A,,.999,A,,.9,A,,")?;
-    detail(rt, 4, b"10000004,68.29,A,,,A,,,A,,67.99,A,,")?;
-    detail(rt, 5, b"10000005,68.29,A,,,,,,,,67.99,A,,")?;
-    detail(rt, 1, b"10000001,66.81,X,,66.52,Y,,67.11,Z,,67.11,9,,")
+    heading(rt, "detail rows: four watt hours with their status")?;
+    detail(rt, 0, "10000000,68.29,A,,69.17,A,,67.99,A,,67.99,A,,")?;
+    detail(rt, 1, "10000001,66.81,E,,66.52,E,,67.11,E,,67.11,E,,")?;
+    detail(rt, 3, "10000003,67.11,A,,66.52,A,,66.81,E,,66.82,E,,")?;
+    heading(rt, "all detailed rows have the same sort code")?;
+    detail(rt, 0, "10000000,68.29,A,,69.17,A,,67.99,A,,67.99,A,,")?;
+    detail(rt, 1, "10000000,68.29,A,,69.17,A,,67.99,A,,67.99,A,,")?;
+    detail(rt, 2, "10000000,68.29,A,,69.17,A,,67.99,A,,67.99,A,,")?;
+    heading(rt, "the empty value's comma is missing; one read a row")?;
+    detail(rt, 0, "10000000,68.29,A,69.17,A,67.99,A,67.99,A,")?;
+    detail(rt, 0, "10000000,68.29,A,,")?;
+    detail(rt, 1, "10000001,69.17,A,,")?;
+    detail(rt, 2, "10000002,67.99,A,,")?;
+    detail(rt, 3, "10000003,67.99,A,,")?;
+    heading(rt, "decimals, missing intervals, status codes")?;
+    detail(rt, 0, "10000000,.2948,A,,.17,A,,.999,A,,.9,A,,")?;
+    detail(rt, 4, "10000004,68.29,A,,,A,,,A,,67.99,A,,")?;
+    detail(rt, 5, "10000005,68.29,A,,,,,,,,67.99,A,,")?;
+    detail(rt, 1, "10000001,66.81,X,,66.52,Y,,67.11,Z,,67.11,9,,")
 }
 
 // No document has these. Of a line that can't be printed its length stands for it.
 fn odd_lines(rt: &impl Print) -> io::Result<()> {
     heading(
         rt,
-        b"a blank before a value; 20 and 21 beside each other; a point with nothing behind it",
+        "a blank before a value; 20 and 21 beside each other; a point with nothing behind it",
     )?;
-    detail(rt, 0, b"10000000, 69.47,A,,69.17,A,,67.99,A,,67.99,A,,")?;
+    detail(rt, 0, "10000000, 69.47,A,,69.17,A,,67.99,A,,67.99,A,,")?;
     detail(
         rt,
         0,
-        b"10000000,1000000.1234,A,,69.17,A,,67.99,A,,67.99,A,,",
+        "10000000,1000000.1234,A,,69.17,A,,67.99,A,,67.99,A,,",
     )?;
-    detail(
-        rt,
-        0,
-        b"10000000,1000000.123,A,,69.17,A,,67.99,A,,67.99,A,,",
-    )?;
-    detail(rt, 0, b"10000000,69.,A,,69.17,A,,67.99,A,,67.99,A,,")?;
-    heading(rt, b"no byte, NUL, bytes over 127, 200,000 bytes")?;
+    detail(rt, 0, "10000000,1000000.123,A,,69.17,A,,67.99,A,,67.99,A,,")?;
+    detail(rt, 0, "10000000,69.,A,,69.17,A,,67.99,A,,67.99,A,,")?;
+    heading(rt, "no byte, NUL, bytes over 127, 200,000 bytes")?;
     odd(rt, b"")?;
     odd(rt, b"\0")?;
     odd(rt, b"00000001,\xff\xfe,4,20080510000000,20080510235900,Y,N")?;

@@ -5,115 +5,88 @@ use headers::one::{Channel, read_one};
 use headers::thirty::read_thirty;
 use headers::three::read_three;
 use headers::two::read_two;
+use lines::line::Line;
 use report::verdict::Verdict;
 use std::io;
 
-fn put(rt: &impl Print, s: &[u8]) -> io::Result<()> {
-    rt.write_all(s)
-}
-
-fn number(rt: &impl Print, n: u32) -> io::Result<()> {
-    rt.print(n)
-}
-
-fn space_and(rt: &impl Print, n: u32) -> io::Result<()> {
-    put(rt, b" ")?;
-    number(rt, n)
-}
-
-fn row(rt: &impl Print, line: &[u8]) -> io::Result<()> {
-    put(rt, b": ")?;
-    put(rt, line)?;
-    put(rt, b"\n")
-}
-
-pub fn heading(rt: &impl Print, s: &[u8]) -> io::Result<()> {
-    put(rt, b"# ")?;
-    put(rt, s)?;
-    put(rt, b"\n")
-}
-
-fn channel(rt: &impl Print, c: Channel) -> io::Result<()> {
-    match c {
-        Channel::Load => put(rt, b" load"),
-        Channel::Generation => put(rt, b" generation"),
-    }
-}
-
 // What a row's reader answers: 0 for a row that passes, else its verdict.
-fn answer<T>(rt: &impl Print, read: &Result<T, Verdict>) -> io::Result<()> {
+fn answer<T>(read: &Result<T, Verdict>) -> u32 {
     match read {
-        Ok(_) => number(rt, 0),
-        Err(verdict) => number(rt, u32::from(*verdict)),
+        Ok(_) => 0,
+        Err(verdict) => u32::from(*verdict),
     }
 }
 
-pub fn one(rt: &impl Print, line: &[u8]) -> io::Result<()> {
-    let read = read_one(line, false);
-    answer(rt, &read)?;
-    if let Ok(one) = read {
-        put(rt, b" ")?;
-        put(rt, one.id)?;
-        channel(rt, one.channel)?;
-        space_and(rt, one.day)?;
+// A line that has no CR.
+fn whole(body: &[u8]) -> Line<'_> {
+    Line { body, cr: false }
+}
+
+fn name_of(channel: Channel) -> &'static str {
+    match channel {
+        Channel::Load => "load",
+        Channel::Generation => "generation",
     }
-    row(rt, line)
+}
+
+pub fn one(rt: &impl Print, line: &str) -> io::Result<()> {
+    let read = read_one(whole(line.as_bytes()));
+    print!(rt; "{}", answer(&read))?;
+    if let Ok(one) = read {
+        print!(rt; " ")?;
+        rt.write_all(one.id)?;
+        print!(rt; " {} {}", name_of(one.channel), one.day)?;
+    }
+    println!(rt; ": {line}")
 }
 
 // A line that can't be printed, as row one.
 pub fn odd(rt: &impl Print, line: &[u8]) -> io::Result<()> {
-    answer(rt, &read_one(line, false))?;
-    put(rt, b": ")?;
-    rt.print(line.len())?;
-    put(rt, b" bytes\n")
+    let read = read_one(whole(line));
+    println!(rt; "{}: {} bytes", answer(&read), line.len())
 }
 
-pub fn two(rt: &impl Print, line: &[u8]) -> io::Result<()> {
-    answer(rt, &read_two(line, false))?;
-    row(rt, line)
+pub fn two(rt: &impl Print, line: &str) -> io::Result<()> {
+    let read = read_two(whole(line.as_bytes()));
+    println!(rt; "{}: {line}", answer(&read))
 }
 
-pub fn three(rt: &impl Print, line: &[u8]) -> io::Result<()> {
-    answer(rt, &read_three(line, false))?;
-    row(rt, line)
+pub fn three(rt: &impl Print, line: &str) -> io::Result<()> {
+    let read = read_three(whole(line.as_bytes()));
+    println!(rt; "{}: {line}", answer(&read))
 }
 
-pub fn four(rt: &impl Print, line: &[u8]) -> io::Result<()> {
-    let read = read_four(line, false);
-    answer(rt, &read)?;
+pub fn four(rt: &impl Print, line: &str) -> io::Result<()> {
+    let read = read_four(whole(line.as_bytes()));
+    print!(rt; "{}", answer(&read))?;
     if let Ok(stamp) = read {
-        space_and(rt, stamp.date)?;
-        space_and(rt, stamp.clock)?;
+        print!(rt; " {} {}", stamp.date, stamp.clock)?;
     }
-    row(rt, line)
+    println!(rt; ": {line}")
 }
 
-pub fn thirty(rt: &impl Print, line: &[u8]) -> io::Result<()> {
-    let read = read_thirty(line, false);
-    answer(rt, &read)?;
+pub fn thirty(rt: &impl Print, line: &str) -> io::Result<()> {
+    let read = read_thirty(whole(line.as_bytes()));
+    print!(rt; "{}", answer(&read))?;
     if let Ok(sender) = read {
-        put(rt, b" ")?;
-        put(rt, sender)?;
+        print!(rt; " ")?;
+        rt.write_all(sender)?;
     }
-    row(rt, line)
+    println!(rt; ": {line}")
 }
 
 fn interval(rt: &impl Print, i: Interval) -> io::Result<()> {
-    space_and(rt, i.wh)?;
-    if i.estimated {
-        put(rt, b"E")
-    } else {
-        put(rt, b"A")
-    }
+    let status = if i.estimated { "E" } else { "A" };
+    print!(rt; " {}{status}", i.wh)
 }
 
-pub fn detail(rt: &impl Print, k: u32, line: &[u8]) -> io::Result<()> {
-    let read = read_detail(line, false, k);
-    answer(rt, &read)?;
+pub fn detail(rt: &impl Print, k: u32, line: &str) -> io::Result<()> {
+    let read = read_detail(whole(line.as_bytes()), k);
+    print!(rt; "{}", answer(&read))?;
     if let Ok(intervals) = read {
         for i in intervals {
             interval(rt, i)?;
         }
     }
-    row(rt, line)
+    println!(rt; ": {line}")
 }

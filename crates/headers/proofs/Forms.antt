@@ -1,9 +1,9 @@
 -- Row two: its forms, at each answer of their checkers, and the walk along the fields.
 -- Assumes nothing.
-use mathlib.Core.Path.{◌≡◌, refl, ap, sym, ◌∙◌}
+use mathlib.Core.Path.{◌≡◌, ap, sym, ◌∙◌}
 use mathlib.Core.List.{List, ◌∷◌}
 use mathlib.Core.Bool.{Bool, true, false, not, ◌&&◌, ◌||◌}
-use Prim.Native.Nat.{ℕ, zero, suc, ◌+◌, ◌<◌, ◌≤◌}
+use Prim.Native.Nat.{ℕ, ◌+◌, ◌<◌, ◌≤◌}
 use native.Mathlib.Omega.{arith}
 use native.Mathlib.Numerals.{add-one}
 use native.Mathlib.Nat.{le_of_eq}
@@ -11,18 +11,15 @@ use lib.Dec.{eqb, leb}
 use lib.ListN.{length, drop, get_or, length-drop, drop_of_length-le}
 use lib.Seq.{drop-cons, drop-drop}
 use borrow.Author.Tests.{leb-true}
-use Rattle.text.specs.Byte.{Bytes, ascii, is_digit, every, equals, is_empty}
+use Rattle.text.specs.Byte.{Bytes, is_digit, every, is_empty}
 use Rattle.text.specs.Field.{cut, first_field, after_field}
 use Rattle.text.specs.Number.{number, leading, behind, Digits}
 use Rattle.text.proofs.Truth.{and_left, and_right}
 use Rattle.text.proofs.Left.{left-cons, left-none}
 use Rattle.text.proofs.Decimal.{run_drop, run_stops}
-use Rattle.text.proofs.Comma.{cut-head, cut-more, cut_at, field_drop, field-within}
-use Rattle.report.specs.Outcome.{passed, refused}
-use Rattle.lines.specs.Row.{fields_of}
-use Rattle.report.specs.Verdict.{misfit}
+use Rattle.text.proofs.Comma.{cut-head, cut-more, cut_at}
 use Rattle.headers.specs.declared.two.Form.TheVariants.{Code}
-use Rattle.headers.specs.Two.{decimal_parts, is_decimal, up_to_digits, is_unit_code, is_zone_count, fits_form, row_two_forms, fit_all, has_multiplier, two_of, row_two}
+use Rattle.headers.specs.Two.{decimal_parts, is_decimal, up_to_digits, is_unit_code, is_zone_count, fits_form, row_two_forms, fit_all, has_multiplier}
 
 -- a test of the number that n digits at most write; r says whether they are digits
 module _ (f : Bytes) (n : ℕ) (r : Bool) (er : r ≡ up_to_digits n f) where

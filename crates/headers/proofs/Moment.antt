@@ -12,7 +12,7 @@ use Rattle.text.specs.Number.{Digits, number}
 use Rattle.text.proofs.Class.{every_take, every_drop}
 use Rattle.calendar.specs.Date.{is_date}
 use Rattle.calendar.specs.Clock.{is_clock}
-use Rattle.report.specs.Outcome.{Outcome, passed, require, ◌>>◌}
+use Rattle.report.specs.Outcome.{passed, require, ◌>>◌}
 use Rattle.report.specs.Verdict.{misfit}
 use Rattle.report.proofs.Passing.{test-passed}
 use Rattle.headers.specs.Time.{date_size, time_size, is_time, time_of}

@@ -1,19 +1,14 @@
 -- Row thirty: names with their numbers.
 -- Assumes nothing.
 use mathlib.Core.Path.{◌≡◌}
-use mathlib.Core.Bool.{Bool, true, false, ◌&&◌, ◌||◌}
-use Prim.Native.Nat.{ℕ, ◌+◌, ◌-◌, ◌≤◌}
+use mathlib.Core.Bool.{Bool, ◌&&◌, ◌||◌}
 use native.Mathlib.Omega.{arith}
-use lib.ListN.{length, take, drop}
-use lib.Seq.{drop-drop}
+use lib.ListN.{length, drop}
 use Rattle.text.specs.Byte.{Bytes, ascii, equals, starts_with}
 use Rattle.text.specs.Field.{cut, first_field, after_field, field_at}
 use Rattle.text.specs.Identifier.{is_duns}
-use Rattle.text.proofs.Truth.{and_left}
-use Rattle.text.proofs.Left.{drop-take}
-use Rattle.text.proofs.Equal.{starts_long}
-use Rattle.text.proofs.Comma.{cut_at, field_take}
-use Rattle.report.specs.Outcome.{Outcome, passed, require, ◌>>◌}
+use Rattle.text.proofs.Comma.{cut_at}
+use Rattle.report.specs.Outcome.{passed, require, ◌>>◌}
 use Rattle.report.specs.Verdict.{misfit}
 use Rattle.headers.specs.Thirty.{behind_name, has_duns, sender_name, rep_name, ends_thirty, is_thirty, thirty_of}
 

@@ -1,17 +1,16 @@
 -- The rows, as their readers cut them: each field is the first of a rest of the line.
 -- Assumes nothing.
 use mathlib.Core.Path.{◌≡◌}
-use Prim.Native.Nat.{ℕ}
 use native.Mathlib.Omega.{arith}
 use lib.ListN.{length}
 use Rattle.text.specs.Byte.{Bytes, ascii, equals}
 use Rattle.text.specs.Field.{cut, first_field, after_field}
 use Rattle.text.specs.Identifier.{is_esi_id}
 use Rattle.text.proofs.Comma.{cut_at}
-use Rattle.report.specs.Outcome.{Outcome, passed, require, ◌>>=◌, ◌>>◌}
+use Rattle.report.specs.Outcome.{passed, require, ◌>>=◌, ◌>>◌}
 use Rattle.report.specs.Verdict.{misfit}
 use Rattle.headers.specs.Time.{stamp_of}
-use Rattle.headers.specs.One.{RowOne, channel_of, day_of, one_of}
+use Rattle.headers.specs.One.{channel_of, day_of, one_of}
 use Rattle.headers.specs.Four.{four_of}
 
 pub one-fields : (line rest₂ id rest₃ third rest₄ start rest₅ stop rest₆ y rest₇ n : Bytes) → length (cut line) ≡ 7

@@ -6,8 +6,10 @@ ghost use Rattle.headers.specs.Four.{four_of, row_four};
 ghost use Rattle.lines.specs.Answer.{line_of};
 
 use crate::time::{Stamp, read_time};
+use lines::line::Line;
 use lines::row::begin;
-use report::verdict::{Verdict, require};
+use report::require;
+use report::verdict::Verdict;
 use text::bytes::same;
 use text::fields::{after, field};
 
@@ -24,9 +26,9 @@ fn read_fields(line: &[u8]) -> Result<Stamp, Verdict>
     Ok(Stamp::from(time))
 }
 
-pub fn read_four(line: &[u8], cr: bool) -> Result<Stamp, Verdict>
-    ensures { says result ≡ row_four (line_of line.now cr) }
+pub fn read_four(line: Line<'_>) -> Result<Stamp, Verdict>
+    ensures { says result ≡ row_four (line_of line.entry) }
 {
-    begin(line, cr, b"00000004", 3)?;
-    read_fields(line)
+    begin(line, b"00000004", 3)?;
+    read_fields(line.body)
 }

@@ -1,9 +1,8 @@
 // The header rows of a data record: one, two, three, four, thirty. One reader each, over one line; nothing here knows of a registry or
-// a table. A line comes in without its CR, and `cr` says whether it had one. A reader takes any bytes and answers with what the row
-// gives, or with its verdict:
+// a table. A reader takes any line (`lines::line::Line`) and answers with what the row gives, or with its verdict:
 //
-//     let one = one::read_one(line, cr)?;     // its ESI ID is that very part of the line; the error is the first test that fails:
-//                                             // 11, 13, 14, then the fields, then 16 and 17
+//     let one = one::read_one(line)?;     // its ESI ID is that very part of the line; the error is the first test that fails:
+//                                         // 11, 13, 14, then the fields, then 16 and 17
 //
 // Each reads field by field; crate `usual` has a quick way through rows as nearly every file has them, with the same promises.
 //

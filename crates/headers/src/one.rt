@@ -7,8 +7,10 @@ ghost use Rattle.lines.specs.Answer.{line_of};
 ghost use Rattle.headers.specs.Answer.{one_says};
 
 use crate::time::{is_below, is_whole_day, read_time};
+use lines::line::Line;
 use lines::row::begin;
-use report::verdict::{Verdict, require};
+use report::require;
+use report::verdict::Verdict;
 use text::bytes::same;
 use text::fields::{after, field};
 use text::names::is_esi_id;
@@ -74,9 +76,9 @@ fn read_fields(line: &[u8]) -> Result<One<'_>, Verdict>
     Ok(One { id, channel, day })
 }
 
-pub fn read_one(line: &[u8], cr: bool) -> Result<One<'_>, Verdict>
-    ensures { one_says result ≡ row_one (line_of line.now cr) }
+pub fn read_one<'a>(line: Line<'a>) -> Result<One<'a>, Verdict>
+    ensures { one_says result ≡ row_one (line_of line.entry) }
 {
-    begin(line, cr, b"00000001", 7)?;
-    read_fields(line)
+    begin(line, b"00000001", 7)?;
+    read_fields(line.body)
 }

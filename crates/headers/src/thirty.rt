@@ -7,8 +7,10 @@ ghost use Rattle.headers.specs.Thirty.{has_duns, ends_thirty, thirty_of, row_thi
 ghost use Rattle.lines.specs.Answer.{line_of};
 ghost use Rattle.headers.specs.Answer.{thirty_says};
 
+use lines::line::Line;
 use lines::row::begin;
-use report::verdict::{Verdict, require};
+use report::require;
+use report::verdict::Verdict;
 use text::bytes::{begins, same};
 use text::fields::{after, behind, field};
 use text::names::is_duns;
@@ -50,9 +52,9 @@ fn read_fields(line: &[u8]) -> Result<&[u8], Verdict>
     Ok(behind(sender, SENDER_NAME_SIZE))
 }
 
-pub fn read_thirty(line: &[u8], cr: bool) -> Result<&[u8], Verdict>
-    ensures { thirty_says result ≡ row_thirty (line_of line.now cr) }
+pub fn read_thirty<'a>(line: Line<'a>) -> Result<&'a [u8], Verdict>
+    ensures { thirty_says result ≡ row_thirty (line_of line.entry) }
 {
-    begin(line, cr, b"00000030", 6)?;
-    read_fields(line)
+    begin(line, b"00000030", 6)?;
+    read_fields(line.body)
 }

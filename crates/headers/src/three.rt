@@ -4,15 +4,17 @@ ghost use Rattle.report.specs.Outcome.{says};
 ghost use Rattle.headers.specs.Three.{row_three};
 ghost use Rattle.lines.specs.Answer.{line_of};
 
+use lines::line::Line;
 use lines::row::begin;
-use report::verdict::{Verdict, require};
+use report::require;
+use report::verdict::Verdict;
 use text::fields::{after, field};
 use text::names::is_descriptor;
 
-pub fn read_three(line: &[u8], cr: bool) -> Result<(), Verdict>
-    ensures { says result ≡ row_three (line_of line.now cr) }
+pub fn read_three(line: Line<'_>) -> Result<(), Verdict>
+    ensures { says result ≡ row_three (line_of line.entry) }
 {
-    begin(line, cr, b"00000003", 2)?;
-    let descriptor = field(after(line, field(line)));
+    begin(line, b"00000003", 2)?;
+    let descriptor = field(after(line.body, field(line.body)));
     require(is_descriptor(descriptor), Verdict::Misfit)
 }

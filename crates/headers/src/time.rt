@@ -4,7 +4,8 @@ ghost use Rattle.report.specs.Outcome.{says};
 ghost use Rattle.headers.specs.Time.{time_of, stamp_at, moment, is_below, stops_day, is_whole_day};
 
 use calendar::{is_clock, is_date};
-use report::verdict::{Verdict, require};
+use report::require;
+use report::verdict::Verdict;
 use text::bytes::all_digits;
 use text::fields::{behind, front};
 use text::numbers::number_of;

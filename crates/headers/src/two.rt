@@ -7,8 +7,10 @@ ghost use Rattle.report.specs.Outcome.{says};
 ghost use Rattle.headers.specs.Two.{is_decimal, up_to_digits, is_unit_code, is_zone_count, fits_form, row_two_forms, fit_all, has_multiplier, row_two};
 ghost use Rattle.lines.specs.Answer.{line_of};
 
+use lines::line::Line;
 use lines::row::begin;
-use report::verdict::{Verdict, require};
+use report::require;
+use report::verdict::Verdict;
 use text::bytes::{all_digits, is_empty, same};
 use text::fields::{after, behind, field};
 use text::numbers::{digits, number_of};
@@ -137,9 +139,12 @@ fn has_multiplier(line: &[u8]) -> bool
     is_empty(start) | is_empty(stop) | !is_empty(multiplier)
 }
 
-pub fn read_two(line: &[u8], cr: bool) -> Result<(), Verdict>
-    ensures { says result ≡ row_two (line_of line.now cr) }
+pub fn read_two(line: Line<'_>) -> Result<(), Verdict>
+    ensures { says result ≡ row_two (line_of line.entry) }
 {
-    begin(line, cr, b"00000002", 14)?;
-    require(fit_all(line) & has_multiplier(line), Verdict::Misfit)
+    begin(line, b"00000002", 14)?;
+    require(
+        fit_all(line.body) & has_multiplier(line.body),
+        Verdict::Misfit,
+    )
 }

@@ -30,8 +30,8 @@ pub fn read_full<R: Read>(reader: &mut R, buffer: &mut [u8]) -> io::Result<usize
 pub fn read_file(rt: &impl Files, name: &str, buffer: &mut [u8]) -> io::Result<usize>
     ensures { ReadsAtMost result buffer.new }
 {
-    match fs::open(rt, name) {
-        Ok(mut file) => read_full(&mut file, buffer),
-        Err(_) => Ok(0),
-    }
+    let Ok(mut file) = fs::open(rt, name) else {
+        return Ok(0);
+    };
+    read_full(&mut file, buffer)
 }

@@ -1,17 +1,19 @@
 -- Counts and lengths that a call answers are far below 2^32.
 -- Assumes nothing.
-use mathlib.Core.Path.{◌≡◌, refl}
+use mathlib.Core.Path.{◌≡◌, refl, sym}
 use mathlib.Core.Bool.{Bool, true, false, cond, not, ◌&&◌}
 use Prim.Native.Nat.{ℕ, zero, suc, ◌+◌, ◌^◌, ◌≤◌, ◌<◌}
 use native.Mathlib.Omega.{arith}
 use lib.Dec.{ltb, leb}
 use lib.ListN.{length}
 use borrow.Author.Tests.{leb-true}
+use Rattle.std.specs.Prelude.{Result, Ok, Err, IfOk}
 use Rattle.calendar.specs.Day.{date_of}
 use Rattle.text.specs.Byte.{Bytes, every, is_alnum}
 use Rattle.text.specs.Identifier.{descriptor_size, is_name, is_descriptor}
 use Rattle.text.proofs.Truth.{and_left, and_right}
-use Rattle.report.specs.Outcome.{Outcome, passed, refused, require, ◌>>◌}
+use Rattle.report.specs.Outcome.{Outcome, passed, require, answers}
+use Rattle.report.specs.declared.refusal.Refusal.{Refusal}
 use Rattle.report.proofs.Passing.{bind_passed, then_passed, require-passed}
 use Rattle.padded.specs.Padding.{unpad}
 use Rattle.padded.proofs.Unpad.{unpad-within}
@@ -24,7 +26,7 @@ use Rattle.report.specs.Refusal.{bad_state, bad_descriptor, short_output}
 use Rattle.cells.specs.Sound.{day_intervals, sound_cell}
 use Rattle.cells.proofs.Passed.{FoundCell, found-cell}
 use Rattle.writer.specs.Record.{record_limit, cell_text}
-use Rattle.writer.specs.Write.{written_record, fitting, writes, answer}
+use Rattle.writer.specs.Write.{written_record, fitting, writes, length_of}
 use Rattle.writer.proofs.Records.{record-most}
 use Rattle.plain.specs.Rows.{Rules, rules_of}
 use Rattle.plain.specs.Call.{byte_limit, room_for, Asked, feed, finish, piece_of, Call, refused_by, done_call}
@@ -34,8 +36,8 @@ use Rattle.plain.proofs.Rules.{lawful}
 use Rattle.plain.proofs.Room.{feed-room, finish-room}
 use Rattle.state.specs.declared.State.{State}
 use Rattle.state.specs.View.{view_of}
-use Rattle.batches.specs.declared.Fed.{Fed}
-use Rattle.loader.specs.Words.{WordsKeep}
+use Rattle.loader.specs.Keeps.{Keeps}
+use Rattle.loader.specs.Report.{report_in, words_left}
 
 -- ---- FEED AND FINISH: a call that is done has a piece of at most 200,000,000 bytes, and one entry for two of them
 
@@ -64,11 +66,12 @@ module _ (reg : Bytes) (size : ℕ) (v : View) (c : Call) where
           done-few c.asked (omega (arith, (allowed R (lawful reg) size v.plain.taken c (not_refused (overfull v) (refused_by R size v.plain.taken c) e)).few))
       go (suc n) e = omega arith
 
-pub count_small : (reg : Bytes) (s : State) (t : Words) (asked : Asked) (report : Words) (fed : Fed) (table written : Words)
-    → WordsKeep reg s t asked report fed table written → fed.count < 2 ^ word_bits
-count_small reg s t asked report fed table written k =
-    let few : fed.count ≤ most = rw k.keeps.promise.count (events-few reg (length t) (view_of s) _) in
+pub count_small : (reg : Bytes) (s : State) (t : Words) (asked : Asked) (report : Words) (answer : Result ℕ Refusal) (after : State) (table written : Words)
+    → Keeps report_in words_left reg s t asked report answer after table written → IfOk answer (λ n. n < 2 ^ word_bits)
+count_small reg s t asked report (Ok n) after table written k =
+    let few : n ≤ most = rw k.promise.count (events-few reg (length t) (view_of s) _) in
     omega arith
+count_small reg s t asked report (Err e) after table written k = tt
 
 -- ---- WRITE: a record has at most 2,000 bytes
 
@@ -95,14 +98,16 @@ module _ (reg : Bytes) (table : Words) (m c d : ℕ) (descriptor output : Bytes)
       let same : cell_text reg m c d descriptor found.0 ≡ text = cc in
       rw (← same) (record-few found.0 found.1 (require-passed (is_descriptor descriptor) bad_descriptor named.0 named.1))
 
-  pub length-small : (answer (writes reg table m c d descriptor output)).length < 2 ^ word_bits
+  pub length-small : (r : Result ℕ Refusal) → answers r ≡ length_of (writes reg table m c d descriptor output) → IfOk r (λ n. n < 2 ^ word_bits)
   unfolding writes fitting
-  length-small = go (written_record reg table m c d descriptor) refl
-    where
-      put : (text : Bytes) (short : Bool) → length text ≤ record_limit → (answer (require (not short) short_output >> passed text)).length < 2 ^ word_bits
-      put text true h = omega arith
-      put text false h = omega arith
-
-      go : (o : Outcome Bytes) → written_record reg table m c d descriptor ≡ o → (answer (fitting output o)).length < 2 ^ word_bits
-      go (passed text) e = put text (ltb (length output) (length text)) (text-few text e)
-      go (refused n) e = omega arith
+  length-small (Ok n) e =
+      let out = bind_passed (writes reg table m c d descriptor output) n _ (sym e) in
+      let made = bind_passed (written_record reg table m c d descriptor) out.0 _ out.1 in
+      let fits = then_passed (require (not (ltb (length output) (length made.0))) short_output) out.0 _ made.2 in
+      let put : ◌≡◌ {A = Outcome Bytes} (passed made.0) (passed out.0) = fits.2 in
+      let told : ◌≡◌ {A = Outcome ℕ} (passed (length out.0)) (passed n) = out.2 in
+      let same : made.0 ≡ out.0 = cc in
+      let size : length out.0 ≡ n = cc in
+      let few : length out.0 ≤ record_limit = rw (← same) (text-few made.0 made.1) in
+      omega arith
+  length-small (Err x) e = tt

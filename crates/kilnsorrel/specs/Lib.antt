@@ -1,2 +1,3 @@
 -- The calls at the border to C and Rust.
 pub mod Border
+pub mod Private

@@ -10,26 +10,32 @@
 // length is refused 1. What the calls do is loader's, estimates' and writer's; here is only how it is asked and answered.
 #![tactic(auto)]
 
-ghost use Rattle.std.specs.Prelude.{◌≡◌, ◌^◌, ◌<◌};
+ghost use Rattle.std.specs.Prelude.{◌≡◌, ◌^◌, ◌<◌, IfOk};
+ghost use Rattle.report.specs.Outcome.{answers};
 ghost use Rattle.cell.specs.Layout.{word_bits};
 ghost use Rattle.estimates.specs.Estimates.{estimates_of};
-ghost use Rattle.writer.specs.Write.{writes, answer, output_with};
-ghost use Rattle.plain.specs.Call.{feed, finish};
-ghost use Rattle.kilnsorrel.specs.Border.{Packs, PacksCounted, PacksWritten, Freshens, Call};
+ghost use Rattle.writer.specs.Write.{writes, length_of, output_with};
+ghost use Rattle.plain.specs.Call.{feed as asks_feed, finish as asks_finish};
+ghost use Rattle.kilnsorrel.specs.Border.{Packs, Freshens, Call};
+ghost use Rattle.kilnsorrel.specs.Private.{asked_of};
 
+use cells::Address;
 use estimates::estimates;
-use loader::words::{feed_words, finish_words};
-use report::refusal::{BAD_STATE, DONE};
+use loader::{feed, finish};
+use report::refusal::Refusal;
 use state::fresh;
 use statewords::{SPAN, STATE_WORDS, put_state, state_in};
 use writer::write;
 
-// The number in the high half, the count or length in the low one.
-fn packed(number: u32, count: usize) -> u64
-    requires { count < 2 ^ word_bits }
-    ensures { Packs number count result }
+// The refusal's number in the high half, or the count or length in the low one.
+fn packed(answer: Result<usize, Refusal>) -> u64
+    requires { IfOk answer (λ n. n < 2 ^ word_bits) }
+    ensures { Packs (answers answer) result }
 {
-    number as u64 * SPAN as u64 + count as u64
+    match answer {
+        Ok(n) => n as u64,
+        Err(refusal) => u64::from(u32::from(refusal)) * SPAN as u64,
+    }
 }
 
 #[unsafe(no_mangle)]
@@ -37,10 +43,34 @@ pub extern "C" fn kilnsorrel_fresh(state: &mut [u32]) -> u64
     ensures { Freshens state.old state.new result }
 {
     if state.len() == STATE_WORDS {
-        put_state(state, fresh());
-        return packed(DONE, 0);
+        put_state(state, &fresh());
+        return packed(Ok(0));
     }
-    packed(BAD_STATE, 0)
+    packed(Err(Refusal::BadState))
+}
+
+// A feed of a piece, or a finish.
+fn called(
+    state: &mut [u32],
+    piece: Option<&[u8]>,
+    registry: &[u8],
+    table: &mut [u32],
+    report: &mut [u32],
+) -> u64
+    ensures { Call registry.now (asked_of piece.entry) state.old state.new table.old table.new report.old report.new result }
+{
+    if state.len() != STATE_WORDS {
+        return packed(Err(Refusal::BadState));
+    }
+    let mut given = state_in(state);
+    let answer = match piece {
+        Some(piece) => feed(&mut given, piece, registry, table, report),
+        None => finish(&mut given, registry, table, report),
+    };
+    if answer.is_ok() {
+        put_state(state, &given);
+    }
+    packed(answer)
 }
 
 #[unsafe(no_mangle)]
@@ -51,18 +81,9 @@ pub extern "C" fn kilnsorrel_feed(
     table: &mut [u32],
     report: &mut [u32],
 ) -> u64
-    ensures { Call registry.now (feed piece.now) state.old state.new table.old table.new report.old report.new result }
+    ensures { Call registry.now (asks_feed piece.now) state.old state.new table.old table.new report.old report.new result }
 {
-    if state.len() != STATE_WORDS {
-        return packed(BAD_STATE, 0);
-    }
-    let before = state_in(state);
-    let fed = feed_words(before, piece, registry, table, report);
-    if fed.number != DONE {
-        return packed(fed.number, fed.count);
-    }
-    put_state(state, fed.state);
-    packed(DONE, fed.count)
+    called(state, Some(piece), registry, table, report)
 }
 
 #[unsafe(no_mangle)]
@@ -72,18 +93,9 @@ pub extern "C" fn kilnsorrel_finish(
     table: &mut [u32],
     report: &mut [u32],
 ) -> u64
-    ensures { Call registry.now finish state.old state.new table.old table.new report.old report.new result }
+    ensures { Call registry.now asks_finish state.old state.new table.old table.new report.old report.new result }
 {
-    if state.len() != STATE_WORDS {
-        return packed(BAD_STATE, 0);
-    }
-    let before = state_in(state);
-    let ended = finish_words(before, registry, table, report);
-    if ended.number != DONE {
-        return packed(ended.number, ended.count);
-    }
-    put_state(state, ended.state);
-    packed(DONE, ended.count)
+    called(state, None, registry, table, report)
 }
 
 // How many intervals of a cell are estimated. Meter, channel and window day are from 0.
@@ -95,10 +107,14 @@ pub extern "C" fn kilnsorrel_estimates(
     channel: usize,
     day: usize,
 ) -> u64
-    ensures { PacksCounted (estimates_of registry.now table.now meter channel day) result }
+    ensures { Packs (estimates_of registry.now table.now meter channel day) result }
 {
-    let counted = estimates(registry, table, meter, channel, day);
-    packed(counted.number, counted.count as usize)
+    let at = Address {
+        meter,
+        channel,
+        day,
+    };
+    packed(estimates(registry, table, at).map(|n| n as usize))
 }
 
 // A sound cell as a record, from place 0 of the output on.
@@ -112,9 +128,13 @@ pub extern "C" fn kilnsorrel_write(
     descriptor: &[u8],
     output: &mut [u8],
 ) -> u64
-    ensures answer { PacksWritten (answer (writes registry.now table.now meter channel day descriptor.now output.old)) result }
+    ensures answer { Packs (length_of (writes registry.now table.now meter channel day descriptor.now output.old)) result }
     ensures bytes { output.new ≡ output_with output.old (writes registry.now table.now meter channel day descriptor.now output.old) }
 {
-    let written = write(registry, table, meter, channel, day, descriptor, output);
-    packed(written.number, written.length)
+    let at = Address {
+        meter,
+        channel,
+        day,
+    };
+    packed(write(registry, table, at, descriptor, output))
 }

@@ -10,8 +10,8 @@ use lib.Dec.{eqb, ltb}
 use lib.ListN.{length, take, get_or}
 use borrow.Author.Tests.{ltb-false}
 use Rattle.text.specs.Byte.{Bytes, starts_with}
-use Rattle.lines.specs.Line.{CR, ends_with_cr, drop_cr, ended_line, last_line, line_limit, cr_size, is_long, opener_bytes, detail_bytes, kind_of}
-use Rattle.lines.specs.Answer.{line_of}
+use Rattle.lines.specs.Line.{Line, CR, ends_with_cr, drop_cr, ended_line, last_line, line_limit, cr_size, is_long, opener_bytes, detail_bytes, kind_of}
+use Rattle.lines.specs.Answer.{line_with}
 use Rattle.lines.specs.declared.line.Kind.TheVariants.{Empty, Opener, Detail, Other}
 
 -- no byte is last, a CR is, another byte is
@@ -52,7 +52,7 @@ drop_last (b ∷ s) h =
     rw (← ends_last (b ∷ s) h, e) (drop_at b s)
 
 -- the CR counts
-pub long_counted : (s : Bytes) (cr : Bool) → ltb line_limit (length s + from_bool cr) ≡ is_long (line_of s cr)
+pub long_counted : (s : Bytes) (cr : Bool) → ltb line_limit (length s + from_bool cr) ≡ is_long (line_with s cr)
 unfolding is_long
 long_counted s true = refl
 long_counted s false = refl
@@ -78,9 +78,9 @@ last-long s =
     let z : length s + 0 ≡ length s = omega arith in
     rw z
 
-pub short-line : (s : Bytes) (cr r : Bool) → r ≡ is_long (line_of s cr) → r ≡ false → length s ≤ line_limit
+pub short-line : (l : Line) (r : Bool) → r ≡ is_long l → r ≡ false → length l.body ≤ line_limit
 unfolding is_long
-short-line s cr r e h = omega (arith, ltb-false line_limit (length s + cr_size cr) (sym e ∙ h))
+short-line l r e h = omega (arith, ltb-false line_limit (length l.body + cr_size l.cr) (sym e ∙ h))
 
 pub kind-empty : (s : Bytes) → length s ≡ 0 → Empty ≡ kind_of s
 unfolding kind_of

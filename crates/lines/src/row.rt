@@ -3,22 +3,22 @@ ghost use Rattle.std.specs.Prelude.{◌≡◌};
 ghost use Rattle.lines.specs.Row.{fields_of};
 ghost use Rattle.lines.specs.Answer.{line_of, begun_says};
 
-use crate::line::is_long;
+use crate::line::{Line, is_long};
 use report::verdict::Verdict;
 use text::bytes::same;
 use text::fields::{field, field_count};
 
 // The tests that come before a row's fields: 11, 13, 14. What passes them has the fields that the line is cut into.
-pub fn begin(line: &[u8], cr: bool, code: &[u8], count: u8) -> Result<(), Verdict>
-    ensures { begun_says result line.now ≡ fields_of code.now count (line_of line.now cr) }
+pub fn begin(line: Line<'_>, code: &[u8], count: u8) -> Result<(), Verdict>
+    ensures { begun_says result line.entry.body.now ≡ fields_of code.now count (line_of line.entry) }
 {
-    if is_long(line, cr) {
+    if is_long(line) {
         return Err(Verdict::Long);
     }
-    if !same(field(line), code) {
+    if !same(field(line.body), code) {
         return Err(Verdict::WrongCode);
     }
-    if field_count(line) != count {
+    if field_count(line.body) != count {
         return Err(Verdict::WrongCount);
     }
     Ok(())

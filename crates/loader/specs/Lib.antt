@@ -1,4 +1,3 @@
--- What the calls promise, with a report of entries and with one of words.
+-- What the calls promise, and what a report is made of.
 pub mod Keeps
 pub mod Report
-pub mod Words

@@ -1,63 +1,61 @@
 // The calls feed and finish; `fresh` is state's.
 //
-//     let mut s = state::fresh();
-//     s = feed(s, piece, registry, &mut table, &mut report).state;     // for each piece of the file
-//     s = finish(s, registry, &mut table, &mut report).state;
+//     let mut state = fresh();
+//     let count = feed(&mut state, piece, registry, &mut table, &mut report)?;     // for each piece of the file
+//     let count = finish(&mut state, registry, &mut table, &mut report)?;
 //
-// A call returns its number (0: done, else why it was refused), how many entries it wrote into the report from place 0, and the next state. A
-// refusal returns the state that came in, writes nothing and changes nothing. What a list of calls does is proofs/Demand3.antt; the claim is
-// plain/specs/Claim.antt. `words` has the same calls with a report of words, for programs.
+// A call tells how many entries it wrote into the report, from place 0 on, or why it was refused; a refusal writes nothing and changes nothing. A report
+// is a run of entries, or of words, five an entry (`slot`). What a list of calls does is proofs/Demand3.antt; the claim is plain/specs/Claim.antt.
 //
-// For whoever changes it: `feed` and `finish` only pass values and borrows on. The work is in batches' `start`, `next_batch` and `last_batch`, over words and
-// not over entries; `put_batch` puts a batch's words into the report as entries. The laws that their proofs cite are proofs/Batching.antt's.
+// For whoever changes it: `feed` counts bytes and entries, and passes all else on. What is refused is state's `admit`, the work is in batches' `next_batch` and
+// `end_file`, over words and not over entries; `Slot::put` puts a batch into the report. The laws that their proofs cite are proofs/Batching.antt's.
 #![tactic(auto)]
 
-ghost use Rattle.std.specs.Prelude.{◌≡◌, length};
-ghost use Rattle.report.specs.Words.{first_entries};
-ghost use Rattle.loader.specs.Keeps.{FeedKeeps, FinishKeeps};
-ghost use Rattle.loader.specs.Report.{Puts, pasted};
+ghost use Rattle.std.specs.Prelude.{◌≡◌};
+ghost use Rattle.plain.specs.Call.{feed as asks_feed, finish as asks_finish};
+ghost use Rattle.loader.specs.Keeps.{Keeps};
 
-pub mod words;
+pub mod slot;
 
-use batches::{Batch, Fed, answer, entry_in, going, last_batch, next_batch, start};
-use report::Entry;
-use state::State;
+use batches::{end_file, next_batch};
+use report::refusal::Refusal;
+use slot::Slot;
+use state::refuse::admit;
+use state::{State, fresh};
 
-// Puts the entries of a batch into the report.
-fn put_batch(report: &mut [Entry], b: Batch)
-    requires { Puts b (length report.old) }
-    ensures { report.new ≡ pasted report.old b.from (first_entries b.count b.words) }
-{
-    let at = b.from;
-    let n = b.count;
-    let mut i: usize = 0;
-    while i < n {
-        report[at + i] = entry_in(b, i);
-        i += 1;
-    }
-}
-
-pub fn feed(
-    state: State,
+pub fn feed<T: Slot>(
+    state: &mut State,
     piece: &[u8],
     registry: &[u8],
     table: &mut [u32],
-    report: &mut [Entry],
-) -> Fed
-    ensures { FeedKeeps state piece.now registry.now table.old report.old result table.new report.new }
+    report: &mut [T],
+) -> Result<usize, Refusal>
+    ensures { Keeps T.entries T.behind registry.now state.old table.old (asks_feed piece.now) report.old result state.new table.new report.new }
 {
-    let mut b = start(state, piece, registry, table.len(), report.len());
-    while going(b) {
-        b = next_batch(b, piece, registry, table);
-        put_batch(report, b);
+    let index = admit(state, registry, table.len(), T::room(report), piece.len())?;
+    state.taken += piece.len();
+    let mut at: usize = 0;
+    let mut count: usize = 0;
+    while at < piece.len() {
+        let batch = next_batch(&mut state.scan, piece, at, &index, table);
+        T::put(report, count, &batch);
+        at = batch.at;
+        count += batch.count;
     }
-    answer(b)
+    Ok(count)
 }
 
-pub fn finish(state: State, registry: &[u8], table: &mut [u32], report: &mut [Entry]) -> Fed
-    ensures { FinishKeeps state registry.now table.old report.old result table.new report.new }
+pub fn finish<T: Slot>(
+    state: &mut State,
+    registry: &[u8],
+    table: &mut [u32],
+    report: &mut [T],
+) -> Result<usize, Refusal>
+    ensures { Keeps T.entries T.behind registry.now state.old table.old asks_finish report.old result state.new table.new report.new }
 {
-    let b = last_batch(state, registry, table, report.len());
-    put_batch(report, b);
-    answer(b)
+    let index = admit(state, registry, table.len(), T::room(report), 0)?;
+    let batch = end_file(&mut state.scan, &index, table);
+    T::put(report, 0, &batch);
+    *state = fresh();
+    Ok(batch.count)
 }

@@ -1,5 +1,4 @@
 -- Laws of the definitions, by subject; each function's proof cites them.
-pub mod Puts
 pub mod Running
 pub mod PlainLine
 pub mod Moving

@@ -2,7 +2,7 @@
 -- Assumes nothing.
 use mathlib.Core.Path.{◌≡◌, refl, sym, ap, ◌∙◌}
 use mathlib.Core.List.{List, [], ◌++◌}
-use Prim.Native.Nat.{ℕ, ◌≤◌}
+use Prim.Native.Nat.{◌≤◌}
 use native.Mathlib.Omega.{arith}
 use lib.ListN.{take, length-take}
 use lib.Seq.{take-take, take_all}
@@ -18,8 +18,8 @@ use Rattle.plain.proofs.Lawful.{Lawful}
 use Rattle.plain.proofs.Rules.{lawful}
 use Rattle.plain.proofs.Kept.{AlikeScan, scan_alike, events_alike}
 use Rattle.plain.proofs.Pieces.{scan_to-append, scan_events-append, entries-append, loads-append, load_all-append}
-use Rattle.units.specs.declared.Unit.{Unit as KeptUnit}
 use Rattle.units.specs.Answer.{unit_of}
+use Rattle.pieces.specs.declared.Scan.{Scan as KeptScan}
 use Rattle.pieces.specs.Ran.{scan_of, Ran}
 
 module _ (R : Rules) (L : Lawful R) where
@@ -62,11 +62,10 @@ pub ran-both : (reg : Bytes) (a b c : Scan) (x y : Bytes) (es fs : List Entry) (
 ran-both reg a b c x y es fs t₀ t₁ t₂ f g = then_ran (rules_of reg) (lawful reg) a b c x y es fs t₀ t₁ t₂ f g
 
 -- nothing read
-pub ran-none : (R : Rules) (kept : Bytes) (held lines : ℕ) (unit : KeptUnit) (id sender : Bytes) (words t : Words) → held ≤ kept_limit
-    → Ran R (scan_of kept held lines unit id sender words) [] (scan_of kept held lines unit id sender words) [] t t
+pub ran-none : (R : Rules) (s : KeptScan) (t : Words) → s.held ≤ kept_limit → Ran R (scan_of s) [] (scan_of s) [] t t
 unfolding scan_to scan_events entries_of loads_of load_all
-ran-none R kept held lines unit id sender words t few =
+ran-none R s t few =
     record {
-      reaches = ap (λ k. scan k lines (unit_of unit id sender words)) (sym (take_all kept_limit (take held kept) (omega (arith, length-take held kept))));
+      reaches = ap (λ k. scan k s.lines (unit_of s.unit s.parts)) (sym (take_all kept_limit (take s.held s.kept) (omega (arith, length-take s.held s.kept))));
       tells = record { entered = refl; loads = refl };
     }

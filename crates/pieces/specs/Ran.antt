@@ -1,5 +1,5 @@
--- A scan as the code keeps it: the kept bytes at the front of a run of 201, the line count, the unit with its lent parts; and what some bytes of
--- a piece do to it. What goes by in a run is in runs/specs/Run.
+-- A scan as the code keeps it: the kept bytes at the front of a run of 201, the line count, the unit with what is lent of its record; and what some
+-- bytes of a piece do to it. What goes by in a run is in runs/specs/Run.
 -- Assumes nothing.
 use Rattle.std.specs.Prelude.{◌≡◌, List, ◌++◌, ℕ, ◌+◌, ◌-◌, ◌*◌, ◌<◌, ◌≤◌, length, take}
 use Rattle.text.specs.Byte.{Bytes}
@@ -12,14 +12,13 @@ use Rattle.plain.specs.Rows.{Rules, rules_of, max_details}
 use Rattle.plain.specs.Loader.{Scan, scan, scan_to, scan_events}
 use Rattle.plain.specs.Call.{byte_limit}
 use Rattle.plain.specs.Promise.{cut_scan, details_in}
-use Rattle.records.specs.Answer.{Sized}
-use Rattle.units.specs.declared.Unit.{Unit as KeptUnit}
 use Rattle.units.specs.Answer.{unit_of, told, Tells}
+use Rattle.pieces.specs.declared.Scan.{Scan as KeptScan}
 use Rattle.pieces.specs.declared.line.Moved.{Moved}
 use Rattle.pieces.specs.declared.run.Run.{Run}
 
-abbrev pub scan_of : Bytes → ℕ → ℕ → KeptUnit → Bytes → Bytes → Words → Scan
-scan_of kept held lines unit id sender words = scan (take held kept) lines (unit_of unit id sender words)
+abbrev pub scan_of : KeptScan → Scan
+scan_of s = scan (take s.held s.kept) s.lines (unit_of s.unit s.parts)
 
 -- from one scan to another over some bytes: the other keeps what a state keeps, the entries are those of the verdicts that fell, and the table is as
 -- their loads leave it
@@ -28,23 +27,22 @@ pub record Ran (R : Rules) (from : Scan) (bytes : Bytes) (to : Scan) (entries : 
   pub tells : Tells R (scan_events R from bytes) entries before after
 
 -- a scan that a state can hold, with so many bytes of the piece still to read
-pub record Holds (kept : Bytes) (held lines : ℕ) (unit : KeptUnit) (id sender : Bytes) (words : Words) (left : ℕ) : Type 0 where
-  pub kept_sized : length kept ≡ kept_limit
-  pub few : held ≤ kept_limit
-  pub sized : Sized id sender words
-  pub details : details_in (unit_of unit id sender words) ≤ max_details
-  pub fits : lines + left ≤ byte_limit
+pub record Holds (s : KeptScan) (left : ℕ) : Type 0 where
+  pub few : s.held ≤ kept_limit
+  pub whole : s.held ≤ length s.kept
+  pub details : details_in (unit_of s.unit s.parts) ≤ max_details
+  pub fits : s.lines + left ≤ byte_limit
 
 abbrev pub told_in : Moved → List Entry
 told_in m = told m.first ++ told m.second
 
 -- a line read from a place on, or what the piece has of it
-pub record Moves (reg : Bytes) (from : Scan) (piece : Bytes) (at : ℕ) (m : Moved) (kept id sender : Bytes) (words before after : Words) : Type 0 where
+pub record Moves (reg : Bytes) (from : Scan) (piece : Bytes) (at : ℕ) (m : Moved) (s : KeptScan) (before after : Words) : Type 0 where
   pub behind : at ≤ m.at
   pub moved : at < length piece → at < m.at
   pub within : m.at ≤ length piece
-  pub holds : Holds kept m.held m.lines m.unit id sender words (length piece - m.at)
-  pub ran : Ran (rules_of reg) from (between at m.at piece) (scan_of kept m.held m.lines m.unit id sender words) (told_in m) before after
+  pub holds : Holds s (length piece - m.at)
+  pub ran : Ran (rules_of reg) from (between at m.at piece) (scan_of s) (told_in m) before after
 
 -- the entries that one batch has room for
 abbrev pub batch_size : ℕ
@@ -58,11 +56,10 @@ abbrev pub most_said : ℕ
 most_said = 3
 
 -- lines read from a place on, as long as a batch has room for them
-pub record Runs (reg : Bytes) (from : Scan) (piece : Bytes) (at : ℕ) (r : Run) (kept id sender : Bytes) (words before after out : Words) : Type 0 where
+pub record Runs (reg : Bytes) (from : Scan) (piece : Bytes) (at : ℕ) (r : Run) (s : KeptScan) (before after out : Words) : Type 0 where
   pub behind : at ≤ r.at
   pub moved : at < length piece → at < r.at
   pub within : r.at ≤ length piece
   pub room : r.count ≤ batch_size
-  pub holds : Holds kept r.held r.lines r.unit id sender words (length piece - r.at)
-  pub ran : Ran (rules_of reg) from (between at r.at piece) (scan_of kept r.held r.lines r.unit id sender words)
-      (first_entries r.count out) before after
+  pub holds : Holds s (length piece - r.at)
+  pub ran : Ran (rules_of reg) from (between at r.at piece) (scan_of s) (first_entries r.count out) before after

@@ -1,9 +1,25 @@
 // A piece of the file, line by line: lines of which nothing is said go by in runs, each other line goes to the unit, and bytes of a line are kept until
 // its LF comes.
 //
-// The state's arrays are lent, its numbers go by value. For whoever changes it: what a line does is in units, what goes by in a run in runs; what bytes
-// do to a scan is `scan_to` of plain/specs/Loader.antt.
+//     let run = read_lines(&mut scan, piece, at, &index, table, &mut words);     // from place `at` on, as many lines as `words` has room for
+//     // run.at is the place behind them; run.count entries of their verdicts are in `words`
+//
+// For whoever changes it: what a line does is in units, what goes by in a run in runs; what bytes do to a scan is `scan_to` of plain/specs/Loader.antt.
 #![tactic(auto)]
+
+use lines::keep::KEPT_LIMIT;
+use records::Parts;
+use units::Unit;
 
 pub mod line;
 pub mod run;
+
+// What is kept between bytes: those of a line whose LF has not come, the line count, and the unit with what is lent of its record.
+#[derive(Clone, Copy)]
+pub struct Scan {
+    pub kept: [u8; KEPT_LIMIT],
+    pub held: usize,
+    pub lines: u32,
+    pub unit: Unit,
+    pub parts: Parts,
+}

@@ -17,9 +17,7 @@ use Rattle.headers.specs.Four.{row_four}
 use Rattle.headers.specs.Thirty.{row_thirty}
 use Rattle.details.specs.Detail.{row_detail}
 use Rattle.cell.specs.Layout.{Words}
-use Rattle.checks.specs.Check.{judge}
-use Rattle.checks.specs.declared.Judgement.{Judgement}
-use Rattle.checks.specs.declared.Judgement.TheVariants.{Passed, Refused}
+use Rattle.checks.specs.Check.{Judgement, Passed, Refused, judge}
 use Rattle.plain.specs.Rows.{Load, Rows, Row, refused_with, goes_on, header_rows, max_details, details_of, or_else, begins, first_row}
 use Rattle.plain.specs.Rows.{with_row, by_judgement, checked, after_detail, detail_row, due_row, next_row, rules_of}
 use Rattle.plain.specs.Loader.{OpenUnit, no_unit, takes_rows, waits, skips, Scan, scan_to}

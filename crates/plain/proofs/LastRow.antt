@@ -15,9 +15,7 @@ use Rattle.headers.specs.Three.{row_three}
 use Rattle.headers.specs.Four.{row_four}
 use Rattle.headers.specs.Thirty.{row_thirty}
 use Rattle.details.specs.Detail.{row_detail}
-use Rattle.checks.specs.Check.{judge}
-use Rattle.checks.specs.declared.Judgement.{Judgement}
-use Rattle.checks.specs.declared.Judgement.TheVariants.{Passed, Refused}
+use Rattle.checks.specs.Check.{Judgement, Passed, Refused, judge}
 use Rattle.plain.specs.Rows.{Rows, Row, refused_with, goes_on, complete, header_rows, max_details, or_else, with_row}
 use Rattle.plain.specs.Rows.{by_judgement, checked, after_detail, detail_row, due_row, next_row, rules_of}
 

@@ -32,9 +32,7 @@ use Rattle.cell.specs.Layout.{Words, width, count_at, date_at, clock_at, values_
 use Rattle.reads.specs.Load.{holds_none}
 use Rattle.cell.specs.Marks.{mark_word, with_mark}
 use Rattle.cell.specs.Read.{cleared, begun, with_stamp, marked_if, with_interval, with_intervals}
-use Rattle.checks.specs.Check.{judge}
-use Rattle.checks.specs.declared.Judgement.{Judgement}
-use Rattle.checks.specs.declared.Judgement.TheVariants.{Passed, Refused}
+use Rattle.checks.specs.Check.{Judgement, Passed, Refused, judge}
 use Rattle.cells.specs.Number.{channels, channel_number}
 use Rattle.cells.specs.Address.{meter_count, day_count, cells_of, is_address, cell_of}
 use Rattle.checks.proofs.Passed.{judged-within}

@@ -20,9 +20,7 @@ use Rattle.registry.specs.Entry.{owner_size}
 use Rattle.registry.specs.Registry.{is_registry}
 use Rattle.cell.specs.Layout.{Words, max_intervals}
 use Rattle.cell.specs.Read.{begun, with_stamp, with_intervals}
-use Rattle.checks.specs.Check.{judge}
-use Rattle.checks.specs.declared.Judgement.{Judgement}
-use Rattle.checks.specs.declared.Judgement.TheVariants.{Passed, Refused}
+use Rattle.checks.specs.Check.{Judgement, Passed, Refused, judge}
 use Rattle.cells.specs.Number.{channel_number}
 use Rattle.cells.specs.Address.{cells_of, is_address, cell_of}
 

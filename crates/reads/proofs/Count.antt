@@ -70,18 +70,18 @@ mark_words_length : (w : Words) → length w ≡ width → length (mark_words w)
 mark_words_length w wide = length-take-le (values_at - marks_at) (drop marks_at w) (simp length-drop (omega arith))
 
 module _ (w : Words) (wide : length w ≡ width) (i n : ℕ) (so_far : n ≡ estimated (i * word_bits) w) where
-  module _ (h : i < length (mark_words w)) (fits : get_or w (marks_at + i) 0 < 2 ^ word_bits) where
+  module _ (h : i < length (mark_words w)) (fits : get_or (mark_words w) i 0 < 2 ^ word_bits) where
     word : get_or (mark_words w) i 0 ≡ get_or w (marks_at + i) 0
     word = get_or-take (values_at - marks_at) (drop marks_at w) i 0 (omega (arith, mark_words_length w wide)) ∙ get_or-drop marks_at w i 0
 
     pub count_again : n + ones (get_or (mark_words w) i 0) ≡ estimated ((i + 1) * word_bits) w
     count_again =
         let next : i * word_bits + word_bits ≡ (i + 1) * word_bits = omega arith in
-        rw word (sym (rw (next, mod-eq_of_lt fits, ← so_far) at (estimated-word w i word_bits (omega arith))))
+        rw word (sym (rw (next, mod-eq_of_lt (rw word at fits), ← so_far) at (estimated-word w i word_bits (omega arith))))
 
     pub count_fits : Fits w32 (n + ones (get_or (mark_words w) i 0))
     count_fits =
-        rw word record { fits = omega (arith, mark_words_length w wide, estimated_le (i * word_bits) w, ones-le word_bits (get_or w (marks_at + i) 0) fits) }
+        rw word record { fits = omega (arith, mark_words_length w wide, estimated_le (i * word_bits) w, ones-le word_bits (get_or w (marks_at + i) 0) (rw word at fits)) }
 
   pub count_end : i ≤ length (mark_words w) → length (mark_words w) ≤ i → n ≡ estimated mark_bits w
   count_end h g =

@@ -25,23 +25,21 @@ put_back t c = rw (← take-add (c * width) width t) (take-append-drop (c * widt
 size : (c : ℕ) → c * width + width - c * width ≡ width
 size c = omega arith
 
--- what the code does where the read loses and where it wins: the cell's words are lent, and come back
-abbrev lent : Words → ℕ → Words
-lent t c = take (c * width + width - c * width) (drop (c * width) t)
+-- the words of a cell, as the code cuts them
+pub lent : (t : Words) (c : ℕ) → take (c * width + width - c * width) (drop (c * width) t) ≡ cell_at t c
+unfolding cell_at
+lent t c = rw (size c)
 
-module _ (t : Words) (c : ℕ) (read : Words) (wins : Bool) (e : wins ≡ (holds_none (lent t c) || is_later (stamp_in read) (stamp_in (lent t c)))) where
-  decided : wins ≡ (holds_none (cell_at t c) || is_later (stamp_in read) (stamp_in (cell_at t c)))
-  unfolding cell_at
-  decided = rw (size c) at e
-
+-- what the code does where the read loses and where it wins
+module _ (t : Words) (c : ℕ) (old read : Words) (wins : Bool) (is : old ≡ cell_at t c) (e : wins ≡ (holds_none old || is_later (stamp_in read) (stamp_in old))) where
   pub load_kept : wins ≡ false → t ≡ loaded t c read
   unfolding loaded merge
-  load_kept h = sym (rw (sym decided ∙ h) (put_back t c))
+  load_kept h = sym (rw (← is, sym e ∙ h, is) (put_back t c))
 
   pub load-put : (back : Words) → wins ≡ true → back ≡ read → put_mid (c * width) (c * width + width - c * width) t back ≡ loaded t c read
   unfolding loaded merge put_cell
   load-put back h g =
-      rw (sym decided ∙ h, g, Post-is (c * width) (c * width + width) t (omega arith))
+      rw (← is, sym e ∙ h, g, Post-is (c * width) (c * width + width) t (omega arith))
       (sym (append_assoc (take (c * width) t) read (drop (c * width + width) t)))
 
 -- ---- the whole table

@@ -24,11 +24,11 @@ use Rattle.cell.proofs.Marks.{in_word, statuses-length, statuses-at}
 -- ---- every word
 
 -- the values of a cell, and those past the n-th, as the code hands them on
-pub values_are : (w : Words) → take (length w - values_at) (drop values_at w) ≡ values_of w
-values_are w = left-whole w values_at
+pub values_are : (w : Words) → length w ≡ width → take (width - values_at) (drop values_at w) ≡ values_of w
+values_are w wide = rw wide at (left-whole w values_at)
 
-pub unused_are : (w : Words) (n : ℕ) → take (length w - (values_at + n)) (drop (values_at + n) w) ≡ drop n (values_of w)
-unused_are w n = left-whole w (values_at + n) ∙ sym (drop-drop n values_at w)
+pub unused_are : (w : Words) (n : ℕ) → length w ≡ width → take (width - (values_at + n)) (drop (values_at + n) w) ≡ drop n (values_of w)
+unused_are w n wide = rw wide at (left-whole w (values_at + n)) ∙ sym (drop-drop n values_at w)
 
 -- ---- no mark
 

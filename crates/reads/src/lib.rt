@@ -1,6 +1,7 @@
 // The read that a cell of the table holds. A loaded read replaces the cell if that holds none, or has an earlier stamp.
 //
 //     load(table, c, &words);                         // cell number c is then the read that wins
+//     cell_at(table, c)                               // its words, as they lie in the table
 //
 // `sound::is_sound` tests a cell of a table that comes from elsewhere; `sound::count_marks` counts the estimated intervals of a sound one.
 //
@@ -10,16 +11,15 @@
 ghost use Rattle.std.specs.Prelude.{◌≡◌, ◌||◌, ◌+◌, ◌*◌, ◌≤◌, length};
 ghost use Rattle.cell.specs.Layout.{width};
 ghost use Rattle.cell.specs.Read.{stamp_in};
-ghost use Rattle.reads.specs.Load.{holds_none, is_later, loaded};
+ghost use Rattle.reads.specs.Load.{cell_at, holds_none, is_later, loaded};
 
-use cell::{Cell, copy, stamp_in};
+use cell::{Cell, Words, stamp_in};
 use headers::time::Stamp;
 
 pub mod sound;
 
 // Whether a cell holds no read.
-pub fn holds_none(words: &[u32]) -> bool
-    requires { length words.now ≡ width }
+pub fn holds_none(words: &Words) -> bool
     ensures { result ≡ holds_none words.now }
 {
     words[Cell::COUNT] == 0
@@ -33,21 +33,29 @@ pub fn is_later(new: Stamp, old: Stamp) -> bool
     new > old
 }
 
-fn replaces(new: &[u32], old: &[u32]) -> bool
-    requires { (length new.now ≡ width) × (length old.now ≡ width) }
+fn replaces(new: &Words, old: &Words) -> bool
     ensures { result ≡ (holds_none old.now || is_later (stamp_in new.now) (stamp_in old.now)) }
 {
     holds_none(old) | is_later(stamp_in(new), stamp_in(old))
 }
 
+// The words of cell number c.
+pub fn cell_at(table: &[u32], c: usize) -> &Words
+    requires { c * width + width ≤ length table.now }
+    ensures { result.now ≡ cell_at table.now c }
+{
+    let start = c * Cell::WIDTH;
+    let end = start + Cell::WIDTH;
+    table[start..end].as_array().unwrap()
+}
+
 // Loads a read into cell number c. No other word of the table changes.
-pub fn load(table: &mut [u32], c: usize, read: &[u32])
-    requires { (c * width + width ≤ length table.old) × (length read.now ≡ width) }
+pub fn load(table: &mut [u32], c: usize, read: &Words)
+    requires { c * width + width ≤ length table.old }
     ensures { table.new ≡ loaded table.old c read.now }
 {
-    let at = c * Cell::WIDTH;
-    let end = at + Cell::WIDTH;
-    if replaces(read, &table[at..end]) {
-        copy(&mut table[at..end], read);
+    if replaces(read, cell_at(table, c)) {
+        let at = c * Cell::WIDTH;
+        table[at..at + Cell::WIDTH].copy_from_slice(read);
     }
 }

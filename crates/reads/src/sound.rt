@@ -1,13 +1,13 @@
 // When a cell is sound for its day, and how many intervals of a sound cell are estimated.
-ghost use Rattle.std.specs.Prelude.{◌≡◌, ◌<◌, ◌≤◌, length, drop};
+ghost use Rattle.std.specs.Prelude.{◌≡◌, ◌<◌, ◌≤◌, drop};
 ghost use Rattle.text.specs.Byte.{every};
-ghost use Rattle.cell.specs.Layout.{width, max_intervals, mark_bits};
+ghost use Rattle.cell.specs.Layout.{max_intervals, mark_bits};
 ghost use Rattle.cell.specs.Marks.{statuses, estimated};
 ghost use Rattle.reads.specs.Sound.{is_real_stamp, is_value, is_zero, no_mark, is_sound};
 
 use calendar::{is_clock, is_date};
 use cell::mark::WORD_BITS;
-use cell::{Cell, stamp_in};
+use cell::{Cell, Words, stamp_in};
 use headers::time::Stamp;
 use text::bytes::every;
 
@@ -33,8 +33,8 @@ fn all_zero(words: &[u32]) -> bool
 }
 
 // Whether no interval from the n-th on is marked: neither in the n-th's word nor in those behind it.
-fn is_clear(words: &[u32], n: usize) -> bool
-    requires { (n < mark_bits) × (length words.now ≡ width) }
+fn is_clear(words: &Words, n: usize) -> bool
+    requires { n < mark_bits }
     ensures { result ≡ no_mark (drop n (statuses mark_bits words.now)) }
 {
     let first = Cell::MARKS + n / WORD_BITS;
@@ -43,8 +43,8 @@ fn is_clear(words: &[u32], n: usize) -> bool
 }
 
 // Whether a cell is sound for a day of n intervals.
-pub fn is_sound(words: &[u32], n: u32) -> bool
-    requires { (n ≤ max_intervals) × (length words.now ≡ width) }
+pub fn is_sound(words: &Words, n: u32) -> bool
+    requires { n ≤ max_intervals }
     ensures { result ≡ is_sound n words.now }
 {
     let used = n as usize;
@@ -56,13 +56,13 @@ pub fn is_sound(words: &[u32], n: u32) -> bool
 }
 
 // How many marks a cell has: of a sound cell, how many intervals are estimated.
-pub fn count_marks(words: &[u32]) -> u32
-    requires { length words.now ≡ width }
+pub fn count_marks(words: &Words) -> u32
     ensures { result ≡ estimated mark_bits words.now }
 {
+    let marks = &words[Cell::MARKS..Cell::VALUES];
     let mut n: u32 = 0;
-    for word in &words[Cell::MARKS..Cell::VALUES] {
-        n += word.count_ones();
+    for i in 0..marks.len() {
+        n += marks[i].count_ones();
     }
     n
 }

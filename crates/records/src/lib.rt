@@ -1,33 +1,33 @@
 // The rows of a record, one after the other: row one begins it, each later row adds to it, and as the last one is read it is put to the
 // registry checks.
 //
-// A record is kept in two parts: a few numbers that go by value (`Progress`), and its ESI ID, Sender and the words of its cell, which are
-// lent. For whoever changes it: the order of the rows is `due_row` of plain/specs/Rows.antt and `row_next` here.
+// A record is kept in two parts: a few numbers that go by value (`Progress`, `Ready`), and its ESI ID, Sender and the words of its cell
+// (`Parts`), which are lent. For whoever changes it: the order of the rows is `due_row` of plain/specs/Rows.antt and `row_header` here.
 #![tactic(auto)]
 
-ghost use Rattle.std.specs.Prelude.{◌≡◌, [], ◌∷◌, true, ◌*◌, ◌<◌, ◌≤◌, length};
+ghost use Rattle.std.specs.Prelude.{◌≡◌, true, ◌*◌, ◌<◌, ◌≤◌, length, OnErr};
 ghost use Rattle.calendar.specs.Date.{is_date};
 ghost use Rattle.text.specs.Byte.{Bytes};
 ghost use Rattle.text.specs.Identifier.{esi_id_size};
 ghost use Rattle.report.specs.Outcome.{says};
 ghost use Rattle.lines.specs.Answer.{line_of};
 ghost use Rattle.details.specs.Detail.{per_row};
-ghost use Rattle.registry.specs.Entry.{owner_size};
-ghost use Rattle.cell.specs.Layout.{Words, width};
 ghost use Rattle.cell.specs.Read.{with_intervals};
 ghost use Rattle.plain.specs.Rows.{header_rows, max_details, or_else, goes_on, begins, first_row, with_row, four_row, thirty_row, checked, after_detail, next_row};
-ghost use Rattle.records.specs.Answer.{rows_of, row_says, unless_on, one_more, Sized, Few, Indexed};
-ghost use Rattle.records.specs.declared.RowRead.TheVariants.{GoesOn};
+ghost use Rattle.records.specs.Answer.{begun_by, rows_of, header_says, checked_says, row_says, one_more, Few};
+ghost use Rattle.records.specs.declared.Parts.{Parts};
 
 use calendar::intervals_on;
-use cell::{Cell, begin, put_interval, put_stamp};
-use checks::{Judgement, judge};
+use cell::{Cell, Words, begin, put_interval, put_stamp};
+use checks::judge;
 use details::detail::{PER_ROW, Row, read_detail};
-use headers::one::Channel;
+use headers::one::{Channel, One};
+use lines::line::Line;
 use padded::padding::put_padded;
-use registry::entry::Window;
-use report::verdict::Verdict;
-use text::fields::front;
+use registry::Index;
+use report::require;
+use report::verdict::{Fault, Verdict};
+use text::names::{DUNS_SIZE, ESI_ID_SIZE};
 use usual::four::read_four;
 use usual::one::read_one;
 use usual::thirty::read_thirty;
@@ -41,7 +41,7 @@ pub const HEADER_ROWS: u32 = 4;
 pub const MAX_DETAILS: u32 = Cell::INTERVALS as u32 / PER_ROW;
 
 // A record that takes rows: how many were read behind row one, how many detail rows the day has, and the day as YYYYMMDD.
-#[derive(Clone, Copy)]
+#[derive(Clone, Copy, Debug, PartialEq, Eq)]
 pub struct Progress {
     pub read: u32,
     pub due: u32,
@@ -50,7 +50,7 @@ pub struct Progress {
 }
 
 // A record that has all its rows and has passed the registry checks: its meter, and its day counted from the first of the window, both from 0.
-#[derive(Clone, Copy)]
+#[derive(Clone, Copy, Debug, PartialEq, Eq)]
 pub struct Ready {
     pub meter: u16,
     pub offset: u16,
@@ -58,175 +58,117 @@ pub struct Ready {
     pub channel: Channel,
 }
 
-// What a row makes of its record: the verdict and the meter as the report numbers it; or a further row is due; or it waits.
+// What is lent of a record: its ESI ID and Sender, padded as in the registry, and the words of its cell.
 #[derive(Clone, Copy)]
-pub enum RowRead {
-    Refused(u32, u32),
+pub struct Parts {
+    pub id: [u8; ESI_ID_SIZE],
+    pub sender: [u8; DUNS_SIZE],
+    pub words: Words,
+}
+
+// What a record is behind a row: a further one is due, or it waits.
+#[derive(Clone, Copy, Debug, PartialEq, Eq)]
+pub enum After {
     GoesOn(Progress),
     Complete(Ready),
 }
 
-// How many meters the registry has, its window, and the meter to try first.
-#[derive(Clone, Copy)]
-pub struct Known {
-    pub count: usize,
-    pub window: Window,
-    pub hint: usize,
-}
-
 // Row one's fields begin a record, in whatever another one left.
-fn begin_record(
-    text: &[u8],
-    channel: Channel,
-    day: u32,
-    id: &mut [u8],
-    sender: &mut [u8],
-    words: &mut [u32],
-) -> RowRead
-    requires { Sized id.old sender.old words.old × (length text.now ≤ esi_id_size) × (is_date day ≡ true) }
-    ensures { (row_says result 0 id.new sender.new words.new ≡ goes_on (begins (record { esi_id = text.now; channel = channel; day = day }))) × Sized id.new sender.new words.new }
+fn begin_record(one: One<'_>, parts: &mut Parts) -> Progress
+    requires fits { length one.id.now ≤ esi_id_size }
+    requires real { is_date one.day ≡ true }
+    ensures { rows_of result parts.new ≡ begins (begun_by one.entry) }
 {
-    let count = intervals_on(day);
-    put_padded(id, text);
-    put_padded(sender, front(text, 0));
-    begin(words, count);
-    RowRead::GoesOn(Progress {
+    let count = intervals_on(one.day);
+    put_padded(&mut parts.id, one.id);
+    put_padded(&mut parts.sender, b"");
+    begin(&mut parts.words, count);
+    Progress {
         read: 0,
         due: count / PER_ROW,
-        day,
-        channel,
-    })
+        day: one.day,
+        channel: one.channel,
+    }
 }
 
 // An opener, which is row one of a new record.
-pub fn row_one(
-    line: &[u8],
-    cr: bool,
-    id: &mut [u8],
-    sender: &mut [u8],
-    words: &mut [u32],
-) -> RowRead
-    requires { Sized id.old sender.old words.old }
-    ensures { (row_says result 0 id.new sender.new words.new ≡ first_row (line_of line.now cr)) × Sized id.new sender.new words.new }
+pub fn row_one(line: Line<'_>, parts: &mut Parts) -> Result<Progress, Verdict>
+    ensures { header_says result 0 parts.new ≡ first_row (line_of line.entry) }
 {
-    match read_one(line, cr) {
-        Err(verdict) => RowRead::Refused(u32::from(verdict), 0),
-        Ok(one) => begin_record(one.id, one.channel, one.day, id, sender, words),
-    }
+    let one = read_one(line)?;
+    Ok(begin_record(one, parts))
 }
 
 // One row more.
-fn counted(p: Progress) -> RowRead
+fn counted(p: Progress) -> Progress
     requires { Few p }
-    ensures { result ≡ GoesOn (one_more p) }
+    ensures { result ≡ one_more p }
 {
-    let channel = p.channel;
-    RowRead::GoesOn(Progress {
+    Progress {
         read: p.read + 1,
-        due: p.due,
-        day: p.day,
-        channel,
-    })
+        ..p
+    }
 }
 
 // Rows two and three, which leave nothing but their being right.
-fn row_checked(p: Progress, r: Result<(), Verdict>) -> RowRead
+fn row_checked(p: Progress, passes: Result<(), Verdict>) -> Result<Progress, Verdict>
     requires { Few p }
-    ensures { (id sender : Bytes) (words : Words) → row_says result p.day id sender words ≡ or_else p.day (says r) (λ u. goes_on (with_row (rows_of p id sender words) words sender)) }
+    ensures { (r : Parts) → header_says result p.day r ≡ or_else p.day (says passes) (λ u. goes_on (with_row (rows_of p r) r.words r.sender)) }
 {
-    match r {
-        Err(verdict) => RowRead::Refused(u32::from(verdict), 0),
-        Ok(()) => counted(p),
-    }
+    passes?;
+    Ok(counted(p))
 }
 
-fn row_four(p: Progress, line: &[u8], cr: bool, words: &mut [u32]) -> RowRead
-    requires { Few p × (length words.old ≡ width) }
-    ensures { ((id sender : Bytes) → row_says result p.day id sender words.new ≡ four_row (rows_of p id sender words.old) (line_of line.now cr)) × (length words.new ≡ width) × unless_on result (words.new ≡ words.old) }
+fn row_four(p: Progress, line: Line<'_>, parts: &mut Parts) -> Result<Progress, Verdict>
+    requires { Few p }
+    ensures says { header_says result p.day parts.new ≡ four_row (rows_of p parts.old) (line_of line.entry) }
+    ensures stays { OnErr result (parts.new ≡ parts.old) }
 {
-    match read_four(line, cr) {
-        Err(verdict) => RowRead::Refused(u32::from(verdict), 0),
-        Ok(stamp) => {
-            put_stamp(words, stamp);
-            counted(p)
-        }
-    }
+    let stamp = read_four(line)?;
+    put_stamp(&mut parts.words, stamp);
+    Ok(counted(p))
 }
 
-fn row_thirty(p: Progress, line: &[u8], cr: bool, sender: &mut [u8]) -> RowRead
-    requires { Few p × (length sender.old ≡ owner_size) }
-    ensures { ((id : Bytes) (words : Words) → row_says result p.day id sender.new words ≡ thirty_row (rows_of p id sender.old words) (line_of line.now cr)) × (length sender.new ≡ owner_size) × unless_on result (sender.new ≡ sender.old) }
+fn row_thirty(p: Progress, line: Line<'_>, parts: &mut Parts) -> Result<Progress, Verdict>
+    requires { Few p }
+    ensures says { header_says result p.day parts.new ≡ thirty_row (rows_of p parts.old) (line_of line.entry) }
+    ensures stays { OnErr result (parts.new ≡ parts.old) }
 {
-    match read_thirty(line, cr) {
-        Err(verdict) => RowRead::Refused(u32::from(verdict), 0),
-        Ok(number) => {
-            put_padded(sender, number);
-            counted(p)
-        }
-    }
+    let number = read_thirty(line)?;
+    put_padded(&mut parts.sender, number);
+    Ok(counted(p))
 }
 
 // Rows two, three, four and thirty, by how many were read behind row one. One that is refused leaves what is lent as it was.
-pub fn row_header(
-    p: Progress,
-    line: &[u8],
-    cr: bool,
-    sender: &mut [u8],
-    words: &mut [u32],
-) -> RowRead
-    requires { (p.read < header_rows) × (length sender.old ≡ owner_size) × (length words.old ≡ width) }
-    ensures { ((reg id : Bytes) → row_says result p.day id sender.new words.new ≡ next_row reg (rows_of p id sender.old words.old) (line_of line.now cr)) × (length sender.new ≡ owner_size) × (length words.new ≡ width) × unless_on result ((sender.new ≡ sender.old) × (words.new ≡ words.old)) }
+pub fn row_header(p: Progress, line: Line<'_>, parts: &mut Parts) -> Result<Progress, Verdict>
+    requires { p.read < header_rows }
+    ensures says { (reg : Bytes) → header_says result p.day parts.new ≡ next_row reg (rows_of p parts.old) (line_of line.entry) }
+    ensures stays { OnErr result (parts.new ≡ parts.old) }
 {
-    if p.read == 0 {
-        return row_checked(p, read_two(line, cr));
+    match p.read {
+        0 => row_checked(p, read_two(line)),
+        1 => row_checked(p, read_three(line)),
+        2 => row_four(p, line, parts),
+        _ => row_thirty(p, line, parts),
     }
-    if p.read == 1 {
-        return row_checked(p, read_three(line, cr));
-    }
-    if p.read == 2 {
-        return row_four(p, line, cr, words);
-    }
-    row_thirty(p, line, cr, sender)
 }
 
-// All rows are in: the registry checks.
-pub fn check(
-    p: Progress,
-    registry: &[u8],
-    meters: &[usize],
-    owners: &[usize],
-    known: Known,
-    id: &[u8],
-    sender: &[u8],
-) -> RowRead
-    requires { Indexed registry.now meters.now owners.now known × (length id.now ≡ esi_id_size) × (length sender.now ≡ owner_size) }
-    ensures { (words : Words) → row_says result p.day id.now sender.now words ≡ checked registry.now (rows_of p id.now sender.now words) }
+// All rows are in: the registry checks. The hint is the meter to try first.
+pub fn check(p: Progress, index: &Index<'_>, hint: usize, parts: &Parts) -> Result<Ready, Fault>
+    ensures { checked_says result p.day parts.now ≡ checked index.now (rows_of p parts.now) }
 {
-    let channel = p.channel;
-    match judge(
-        registry,
-        meters,
-        owners,
-        known.count,
-        known.window,
-        known.hint,
-        id,
-        sender,
-        p.day,
-    ) {
-        Judgement::Refused(verdict, meter) => RowRead::Refused(verdict, meter),
-        Judgement::Passed(meter, day) => RowRead::Complete(Ready {
-            meter: meter as u16,
-            offset: day as u16,
-            day: p.day,
-            channel,
-        }),
-    }
+    let cleared = judge(index, hint, &parts.id, &parts.sender, p.day)?;
+    Ok(Ready {
+        meter: cleared.meter as u16,
+        offset: cleared.day as u16,
+        day: p.day,
+        channel: p.channel,
+    })
 }
 
 // Puts the intervals of detail row k, from 0.
-pub fn put_intervals(words: &mut [u32], k: u32, row: &Row)
-    requires { (k < max_details) × (length words.old ≡ width) }
+pub fn put_intervals(words: &mut Words, k: u32, row: &Row)
+    requires { k < max_details }
     ensures { words.new ≡ with_intervals words.old (k * per_row) row.now }
 {
     let first = (k * PER_ROW) as usize;
@@ -239,92 +181,50 @@ pub fn put_intervals(words: &mut [u32], k: u32, row: &Row)
 fn after_detail(
     p: Progress,
     k: u32,
-    registry: &[u8],
-    meters: &[usize],
-    owners: &[usize],
-    known: Known,
-    id: &[u8],
-    sender: &[u8],
-) -> RowRead
-    requires { Indexed registry.now meters.now owners.now known × (length id.now ≡ esi_id_size) × (length sender.now ≡ owner_size) × Few p × (k < max_details) }
-    ensures { (words : Words) → row_says result p.day id.now sender.now words ≡ after_detail registry.now k (rows_of (one_more p) id.now sender.now words) }
+    index: &Index<'_>,
+    hint: usize,
+    parts: &Parts,
+) -> Result<After, Fault>
+    requires { Few p × (k < max_details) }
+    ensures { row_says result p.day parts.now ≡ after_detail index.now k (rows_of (one_more p) parts.now) }
 {
     if k + 1 == p.due {
-        return check(p, registry, meters, owners, known, id, sender);
+        return Ok(After::Complete(check(p, index, hint, parts)?));
     }
-    counted(p)
-}
-
-// Detail row k, whose intervals are read.
-pub fn take_detail(
-    p: Progress,
-    k: u32,
-    row: &Row,
-    registry: &[u8],
-    meters: &[usize],
-    owners: &[usize],
-    known: Known,
-    id: &[u8],
-    sender: &[u8],
-    words: &mut [u32],
-) -> RowRead
-    requires { Indexed registry.now meters.now owners.now known × Sized id.now sender.now words.old × Few p × (k < max_details) }
-    ensures { (row_says result p.day id.now sender.now words.new ≡ after_detail registry.now k (with_row (rows_of p id.now sender.now words.old) (with_intervals words.old (k * per_row) row.now) sender.now)) × (length words.new ≡ width) }
-{
-    put_intervals(words, k, row);
-    after_detail(p, k, registry, meters, owners, known, id, sender)
+    Ok(After::GoesOn(counted(p)))
 }
 
 // The detail row that is due.
 fn row_detail(
     p: Progress,
-    line: &[u8],
-    cr: bool,
-    registry: &[u8],
-    meters: &[usize],
-    owners: &[usize],
-    known: Known,
-    id: &[u8],
-    sender: &[u8],
-    words: &mut [u32],
-) -> RowRead
-    requires { Indexed registry.now meters.now owners.now known × Sized id.now sender.now words.old × Few p × (header_rows ≤ p.read) }
-    ensures { (row_says result p.day id.now sender.now words.new ≡ next_row registry.now (rows_of p id.now sender.now words.old) (line_of line.now cr)) × (length words.new ≡ width) }
+    line: Line<'_>,
+    index: &Index<'_>,
+    hint: usize,
+    parts: &mut Parts,
+) -> Result<After, Fault>
+    requires { Few p × (header_rows ≤ p.read) }
+    ensures { row_says result p.day parts.new ≡ next_row index.now (rows_of p parts.old) (line_of line.entry) }
 {
     let k = p.read - HEADER_ROWS;
-    match read_detail(line, cr, k) {
-        Err(verdict) => RowRead::Refused(u32::from(verdict), 0),
-        Ok(row) => {
-            if MAX_DETAILS <= k {
-                return RowRead::Refused(u32::from(Verdict::WrongCode), 0);
-            }
-            take_detail(
-                p, k, &row, registry, meters, owners, known, id, sender, words,
-            )
-        }
-    }
+    let row = read_detail(line, k)?;
+    require(k < MAX_DETAILS, Verdict::WrongCode)?;
+    put_intervals(&mut parts.words, k, &row);
+    after_detail(p, k, index, hint, parts)
 }
 
 // The row that is due.
 pub fn row_next(
     p: Progress,
-    line: &[u8],
-    cr: bool,
-    registry: &[u8],
-    meters: &[usize],
-    owners: &[usize],
-    known: Known,
-    id: &[u8],
-    sender: &mut [u8],
-    words: &mut [u32],
-) -> RowRead
-    requires { Indexed registry.now meters.now owners.now known × Sized id.now sender.old words.old × Few p }
-    ensures { (row_says result p.day id.now sender.new words.new ≡ next_row registry.now (rows_of p id.now sender.old words.old) (line_of line.now cr)) × Sized id.now sender.new words.new }
+    line: Line<'_>,
+    index: &Index<'_>,
+    hint: usize,
+    parts: &mut Parts,
+) -> Result<After, Fault>
+    requires { Few p }
+    ensures { row_says result p.day parts.new ≡ next_row index.now (rows_of p parts.old) (line_of line.entry) }
 {
     if p.read < HEADER_ROWS {
-        return row_header(p, line, cr, sender, words);
+        return Ok(After::GoesOn(row_header(p, line, parts)?));
     }
-    row_detail(
-        p, line, cr, registry, meters, owners, known, id, sender, words,
-    )
+    row_detail(p, line, index, hint, parts)
 }

@@ -1,110 +1,123 @@
 // Registries, good and bad, and cells, sound and not: what Estimates answers of meter 0, load, on window day 0.
 #![tactic(auto)]
 
-mod show;
+mod one_meter;
 
-use show::{cells, registry};
+use cell::Cell;
+use cells::{Address, CHANNELS};
+use estimates::estimates;
+use print::{answered, heading};
 use std::io;
 
+// Room for the cells of each registry here: two meters and 62 days at most.
+const TABLE: usize = 2 * CHANNELS * 62 * Cell::WIDTH;
+
+// Meter 0, load, window day 0.
+const FIRST: Address = Address {
+    meter: 0,
+    channel: 0,
+    day: 0,
+};
+
+fn registry(rt: &impl Print, name: &str, bytes: &[u8]) -> io::Result<()> {
+    answered(rt, name, estimates(bytes, &[0; TABLE], FIRST))
+}
+
 fn good_registries(rt: &impl Print) -> io::Result<()> {
-    show::heading(
+    heading(
         rt,
-        b"good registries; without a cell, 6; with an empty one, 7",
+        "good registries; without a cell, 6; with an empty one, 7",
     )?;
     registry(
         rt,
-        b"window, owner, meter",
+        "window, owner, meter",
         b"\x012008051001\x02666666666    \x03100000000000000                                                 \x06",
     )?;
-    registry(rt, b"window alone: no meters, no cells", b"\x012008051001")?;
+    registry(rt, "window alone: no meters, no cells", b"\x012008051001")?;
     registry(
         rt,
-        b"owners without meters, and the same owner again",
+        "owners without meters, and the same owner again",
         b"\x012008051001\x02666666666    \x021234567890123\x02666666666    ",
     )?;
     registry(
         rt,
-        b"two meters in order, one upper case, one lower",
+        "two meters in order, one upper case, one lower",
         b"\x012008051001\x02666666666    \x03ABC                                                             \x07\x03abc                                                             \x00",
     )?;
     registry(
         rt,
-        b"62 days, the last of them 20991231",
+        "62 days, the last of them 20991231",
         b"\x012099103162\x02666666666    \x03100000000000000                                                 \x06",
     )
 }
 
 fn windows(rt: &impl Print) -> io::Result<()> {
-    show::heading(rt, b"windows that break a rule")?;
-    registry(rt, b"empty", b"")?;
+    heading(rt, "windows that break a rule")?;
+    registry(rt, "empty", b"")?;
     registry(
         rt,
-        b"no window",
+        "no window",
         b"\x02666666666    \x03100000000000000                                                 \x06",
     )?;
-    registry(rt, b"window twice", b"\x012008051001\x012008051001")?;
+    registry(rt, "window twice", b"\x012008051001\x012008051001")?;
     registry(
         rt,
-        b"window after an owner",
+        "window after an owner",
         b"\x02666666666    \x012008051001",
     )?;
     registry(
         rt,
-        b"00 days",
+        "00 days",
         b"\x012008051000\x02666666666    \x03100000000000000                                                 \x06",
     )?;
     registry(
         rt,
-        b"63 days",
+        "63 days",
         b"\x012008051063\x02666666666    \x03100000000000000                                                 \x06",
     )?;
-    registry(rt, b"ends past 20991231", b"\x012099123102")?;
-    registry(rt, b"no real date", b"\x012009022901")?;
-    registry(rt, b"year 2006", b"\x012006123101")?;
-    registry(rt, b"a letter in the window", b"\x0120080510 1")
+    registry(rt, "ends past 20991231", b"\x012099123102")?;
+    registry(rt, "no real date", b"\x012009022901")?;
+    registry(rt, "year 2006", b"\x012006123101")?;
+    registry(rt, "a letter in the window", b"\x0120080510 1")
 }
 
 fn entries(rt: &impl Print) -> io::Result<()> {
-    show::heading(rt, b"entries that break a rule")?;
-    registry(rt, b"unknown kind", b"\x012008051001\x04666666666    ")?;
+    heading(rt, "entries that break a rule")?;
+    registry(rt, "unknown kind", b"\x012008051001\x04666666666    ")?;
+    registry(rt, "owner of 10 digits", b"\x012008051001\x021234567890   ")?;
     registry(
         rt,
-        b"owner of 10 digits",
-        b"\x012008051001\x021234567890   ",
-    )?;
-    registry(
-        rt,
-        b"meter before any owner",
+        "meter before any owner",
         b"\x012008051001\x03100000000000000                                                 \x06",
     )?;
     registry(
         rt,
-        b"flags over 7",
+        "flags over 7",
         b"\x012008051001\x02666666666    \x03100000000000000                                                 \x08",
     )?;
     registry(
         rt,
-        b"ESI ID of spaces",
+        "ESI ID of spaces",
         b"\x012008051001\x02666666666    \x03                                                                \x06",
     )?;
     registry(
         rt,
-        b"a space inside an ESI ID",
+        "a space inside an ESI ID",
         b"\x012008051001\x02666666666    \x0310 1                                                            \x06",
     )?;
     registry(
         rt,
-        b"equal ESI IDs",
+        "equal ESI IDs",
         b"\x012008051001\x02666666666    \x03100000000000000                                                 \x06\x03100000000000000                                                 \x06",
     )?;
     registry(
         rt,
-        b"ESI IDs not in order",
+        "ESI IDs not in order",
         b"\x012008051001\x02666666666    \x03abc                                                             \x06\x03ABC                                                             \x06",
     )?;
     registry(
         rt,
-        b"cut off in its last entry",
+        "cut off in its last entry",
         b"\x012008051001\x02666666666    \x03100000000000000                                                 ",
     )
 }
@@ -113,5 +126,5 @@ fn main(rt: HostRuntime) -> io::Result<()> {
     good_registries(&rt)?;
     windows(&rt)?;
     entries(&rt)?;
-    cells(&rt)
+    one_meter::cells(&rt)
 }

@@ -1,4 +1,4 @@
--- The entry at a place: its text, its kind by what the code tests, and whether a meter may stand there.
+-- The entry at a place: its text, its kind by what the code tests, and whether a meter comes behind the last one.
 -- Assumes nothing.
 use mathlib.Core.Path.{◌≡◌, refl, sym, ap, ◌∙◌}
 use mathlib.Core.Bool.{Bool, true, false, cond, ◌&&◌, and-false}
@@ -14,12 +14,11 @@ use Rattle.text.proofs.Left.{left-cons}
 use Rattle.padded.specs.Order.{order, below}
 use Rattle.padded.specs.Padding.{is_padded_esi_id, is_padded_duns}
 use Rattle.std.specs.declared.cmp.Ordering.{Ordering}
-use Rattle.std.specs.declared.cmp.Ordering.TheVariants.{Less, Equal, Greater}
 use Rattle.std.specs.Ordering.{is_lt}
 use Rattle.padded.proofs.Bytewise.{less-some}
 use Rattle.registry.specs.Entry.{owner_size, meter_size, all_flags, is_meter, entry_kind}
-use Rattle.registry.specs.Registry.{max_meters, in_order}
-use Rattle.registry.specs.Index.{bytes_at, seen_at}
+use Rattle.std.specs.Prelude.{Option, Some, None}
+use Rattle.registry.specs.Index.{bytes_at}
 use Rattle.registry.specs.declared.entry.Kind.TheVariants.{Owner, Meter, Broken}
 
 -- ---- the text
@@ -33,10 +32,6 @@ module _ (reg : Bytes) (place n : ℕ) where
 
   pub text-length : place + n < length reg → length (take n (drop (place + 1) reg)) ≡ n
   text-length h = length-take-le n (drop (place + 1) reg) (rw (length-drop (place + 1) reg) (omega arith))
-
-pub text_at_lem : (n : ℕ) (reg : Bytes) (place : ℕ) → 0 < place → bytes_at n reg place ≡ take n (drop (place + 1) reg)
-text_at_lem n reg zero h = absurd (omega arith)
-text_at_lem n reg (suc p) h = refl
 
 -- ---- THE KIND
 
@@ -92,38 +87,13 @@ module _ (reg : Bytes) (at : ℕ) (h : at < length reg) where
         pub meter-wrong : r ≡ false → Broken ≡ entry_kind (drop at reg)
         meter-wrong g = sym (meter-here ∙ rw (← et, ← er, g))
 
--- ---- A METER IN ITS ORDER
+-- ---- A METER BEHIND THE LAST ONE
 
-module _ (reg : Bytes) (owner last count at : ℕ) where
-  pub no_owner : owner ≡ 0 → false ≡ in_order (seen_at reg owner last count) (drop (at + 1) reg)
-  unfolding in_order
-  no_owner e = rw e
+module _ (reg : Bytes) (at : ℕ) (ha : at + meter_size < length reg) where
+  pub first-meter : (last : Option ℕ) → last ≡ None → true ≡ below (bytes_at esi_id_size reg last) (take esi_id_size (drop (at + 1) reg))
+  first-meter last e =
+      sym (rw (e, less-some (take esi_id_size (drop (at + 1) reg)) (rw (text-length reg at esi_id_size (omega arith)) (omega arith))))
 
-  pub no_room : max_meters ≤ count → false ≡ in_order (seen_at reg owner last count) (drop (at + 1) reg)
-  unfolding in_order
-  no_room h = rw (le-ltb count max_meters h, and-false)
-
-  module _ (no : owner ≡ 0 → ⊥) (hw : 0 < owner → owner + owner_size < length reg) (hc : count < max_meters) (ha : at + meter_size < length reg) where
-    by_order : in_order (seen_at reg owner last count) (drop (at + 1) reg) ≡ below (bytes_at esi_id_size reg last) (take esi_id_size (drop (at + 1) reg))
-    unfolding in_order
-    by_order =
-        let o : 0 < owner = omega (arith, no) in
-        let n : length (bytes_at owner_size reg owner) ≡ owner_size = ap length (text_at_lem owner_size reg owner o) ∙ text-length reg owner owner_size (hw o) in
-        rw (n, lt-ltb count max_meters hc)
-
-    pub first-meter : last ≡ 0 → true ≡ in_order (seen_at reg owner last count) (drop (at + 1) reg)
-    first-meter e =
-        sym (by_order ∙ rw (e, less-some (take esi_id_size (drop (at + 1) reg)) (rw (text-length reg at esi_id_size (omega arith)) (omega arith))))
-
-    module _ (nl : last ≡ 0 → ⊥) (s t : Bytes) (es : s ≡ take esi_id_size (drop (last + 1) reg)) (et : t ≡ take esi_id_size (drop (at + 1) reg)) (o : Ordering) (eo : o ≡ order s t) where
-      by_texts : in_order (seen_at reg owner last count) (drop (at + 1) reg) ≡ is_lt o
-      by_texts = by_order ∙ rw (text_at_lem esi_id_size reg last (omega (arith, nl)), ← es, ← et, ← eo)
-
-      pub meter-less : o ≡ Less → true ≡ in_order (seen_at reg owner last count) (drop (at + 1) reg)
-      meter-less e = sym (by_texts ∙ rw e)
-
-      pub meter-same : o ≡ Equal → false ≡ in_order (seen_at reg owner last count) (drop (at + 1) reg)
-      meter-same e = sym (by_texts ∙ rw e)
-
-      pub meter-more : o ≡ Greater → false ≡ in_order (seen_at reg owner last count) (drop (at + 1) reg)
-      meter-more e = sym (by_texts ∙ rw e)
+  pub later-meter : (last : Option ℕ) (p : ℕ) → last ≡ Some p → (s t : Bytes) → s ≡ take esi_id_size (drop (p + 1) reg) → t ≡ take esi_id_size (drop (at + 1) reg)
+      → (o : Ordering) → o ≡ order s t → is_lt o ≡ below (bytes_at esi_id_size reg last) (take esi_id_size (drop (at + 1) reg))
+  later-meter last p e s t es et o eo = rw (e, eo, es, et)

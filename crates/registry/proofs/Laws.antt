@@ -2,8 +2,8 @@
 -- Assumes nothing.
 use mathlib.Core.Path.{◌≡◌, refl, sym}
 use mathlib.Core.List.{List, [], ◌∷◌}
-use mathlib.Core.Bool.{true, false}
-use mathlib.Core.Option.{Option, none, some}
+use mathlib.Core.Bool.{Bool, true, false, cond}
+use Rattle.std.specs.Prelude.{Option, Some, None, is_some}
 use Prim.Native.Nat.{ℕ, zero, suc, ◌+◌, ◌≤◌, ◌<◌}
 use native.Mathlib.Omega.{arith}
 use lib.ListN.{length, take, get_or}
@@ -15,11 +15,10 @@ use Rattle.padded.specs.Order.{order}
 use Rattle.padded.specs.Padding.{is_padded_esi_id, is_padded_duns}
 use Rattle.std.specs.declared.cmp.Ordering.TheVariants.{Less}
 use Rattle.padded.proofs.Bytewise.{order_trans}
-use Rattle.registry.specs.Entry.{window_size, owner_size, all_flags, start_of}
-use Rattle.registry.specs.Registry.{Registry, Meter, Seen, max_meters, none_seen, entries, start_with, registry_of, is_some, meters_in, no_window, window_in, is_registry, meters_of, window_is}
-use Rattle.registry.specs.Index.{no_meter, meter_at}
-use Rattle.registry.specs.declared.entry.Start.{Start}
-use Rattle.registry.specs.declared.entry.Start.TheVariants.{From, NoWindow}
+use Rattle.registry.specs.Entry.{window_size, owner_size, max_days, all_flags, start_of}
+use Rattle.registry.specs.Registry.{Registry, Meter, Seen, max_meters, none_seen, entries, start_with, registry_of, meters_in, no_window, window_in, is_registry, meters_of, window_is}
+use Rattle.registry.specs.Index.{no_meter, meter_at, index_of}
+use Rattle.registry.specs.declared.entry.Window.{Window}
 use Rattle.registry.proofs.Opening.{Kept, start-kept}
 use Rattle.registry.proofs.Reading.{Read, end, owner, meter, OwnerBody, meters-read}
 
@@ -32,16 +31,35 @@ unfolding is_registry meters_of
 unsound_meters reg = go (registry_of reg)
   where
     go : (x : Option Registry) → is_some x ≡ false → meters_in x ≡ []
-    go none e = refl
-    go (some r) e = absurd (apart (sym e))
+    go None e = refl
+    go (Some r) e = absurd (apart (sym e))
 
 pub unsound-window : (reg : Bytes) → is_registry reg ≡ false → window_is reg ≡ no_window
 unfolding is_registry window_is
 unsound-window reg = go (registry_of reg)
   where
     go : (x : Option Registry) → is_some x ≡ false → window_in x ≡ no_window
-    go none e = refl
-    go (some r) e = absurd (apart (sym e))
+    go None e = refl
+    go (Some r) e = absurd (apart (sym e))
+
+-- ---- ITS INDEX is there, where none is broken
+
+module _ (reg : Bytes) where
+  pub index-none : None ≡ index_of reg → is_registry reg ≡ false
+  unfolding index_of
+  index-none = go (is_registry reg)
+    where
+      go : (t : Bool) → None ≡ cond t (Some reg) None → t ≡ false
+      go true e = absurd cc
+      go false e = refl
+
+  pub index-some : (i : Bytes) → Some i ≡ index_of reg → (is_registry reg ≡ true) × (i ≡ reg)
+  unfolding index_of
+  index-some i = go (is_registry reg)
+    where
+      go : (t : Bool) → Some i ≡ cond t (Some reg) None → (t ≡ true) × (i ≡ reg)
+      go true e = (refl, cc)
+      go false e = absurd cc
 
 -- ---- WHERE NONE IS, the window has 1 to 62 days, up to 20991231.
 
@@ -49,10 +67,18 @@ pub sound-window : (reg : Bytes) → is_registry reg ≡ true → Kept (window_i
 unfolding is_registry window_is registry_of
 sound-window reg = go (start_of reg) (entries (window_size + 1) none_seen reg) refl
   where
-    go : (s : Start) (x : Option (List Meter)) → start_of reg ≡ s → is_some (start_with s x) ≡ true → Kept (window_in (start_with s x))
-    go NoWindow x e f = absurd (apart f)
-    go (From w) none e f = absurd (apart f)
-    go (From w) (some ms) e f = start-kept reg w e
+    go : (s : Option Window) (x : Option (List Meter)) → start_of reg ≡ s → is_some (start_with s x) ≡ true → Kept (window_in (start_with s x))
+    go None x e f = absurd (apart f)
+    go (Some w) None e f = absurd (apart f)
+    go (Some w) (Some ms) e f = start-kept reg w e
+
+-- none is longer, not even where a rule is broken
+pub window-most : (reg : Bytes) → (window_is reg).days ≤ max_days
+window-most reg = go (is_registry reg) refl
+  where
+    go : (t : Bool) → is_registry reg ≡ t → (window_is reg).days ≤ max_days
+    go true e = (sound-window reg e).few
+    go false e = rw (unsound-window reg e) (omega arith)
 
 -- ---- AT MOST 1,000 METERS
 

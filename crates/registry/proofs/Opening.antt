@@ -21,7 +21,6 @@ use Rattle.text.proofs.Decimal.{number-below}
 use Rattle.text.proofs.Class.{every_take, every_drop}
 use Rattle.registry.specs.Entry.{window_size, max_days, first_text, days_text, is_window, window_of, start_of}
 use Rattle.registry.specs.declared.entry.Window.{Window}
-use Rattle.registry.specs.declared.entry.Start.TheVariants.{From, NoWindow}
 
 -- ---- the day of a date, or no date
 
@@ -72,33 +71,33 @@ module _ (body : Bytes) (r : Bool) (er : r ≡ every is_digit body) (h : r ≡ t
 
 -- ---- THE WINDOW
 
-pub start-short : (reg : Bytes) → length reg ≤ window_size → NoWindow ≡ start_of reg
+pub start-short : (reg : Bytes) → length reg ≤ window_size → None ≡ start_of reg
 unfolding start_of
 start-short [] h = refl
 start-short (k ∷ b) h = rw (lt-leb window_size (length b) (omega arith), and-false)
 
-pub start_other : (reg : Bytes) → (get_or reg 0 0 ≡ 1 → ⊥) → NoWindow ≡ start_of reg
+pub start_other : (reg : Bytes) → (get_or reg 0 0 ≡ 1 → ⊥) → None ≡ start_of reg
 unfolding start_of
 start_other [] h = refl
 start_other (k ∷ b) h = rw (ne_eqb k 1 h)
 
 start-body : (reg : Bytes) → window_size < length reg → get_or reg 0 0 ≡ 1
-    → start_of reg ≡ cond (is_window (take window_size (drop 1 reg))) (From (window_of (take window_size (drop 1 reg)))) NoWindow
+    → start_of reg ≡ cond (is_window (take window_size (drop 1 reg))) (Some (window_of (take window_size (drop 1 reg)))) None
 unfolding start_of
 start-body [] h e = absurd (omega arith)
 start-body (k ∷ b) h e = rw (e, le-leb window_size (length b) (omega arith))
 
 module _ (reg : Bytes) (n : window_size < length reg) (e : get_or reg 0 0 ≡ 1) (body : Bytes) (eb : body ≡ take window_size (drop 1 reg)) (r : Bool) (er : r ≡ every is_digit body) where
-  start-here : start_of reg ≡ cond (is_window body) (From (window_of body)) NoWindow
+  start-here : start_of reg ≡ cond (is_window body) (Some (window_of body)) None
   start-here = start-body reg n e ∙ rw (← eb)
 
-  pub start_letters : r ≡ false → NoWindow ≡ start_of reg
+  pub start_letters : r ≡ false → None ≡ start_of reg
   unfolding is_window
   start_letters h = sym (start-here ∙ rw (← er, h))
 
   module _ (h : r ≡ true) where
     module _ (date days : ℕ) (ed : date ≡ number (take 8 body)) (ey : days ≡ number (take (length body - 8) (drop 8 body))) (answer : Option ℕ) (ea : answer ≡ day_is date) where
-      pub start_no_date : answer ≡ None → NoWindow ≡ start_of reg
+      pub start_no_date : answer ≡ None → None ≡ start_of reg
       unfolding is_window
       start_no_date f = sym (start-here ∙ rw (digits body r er h, ← ed, is_no_day date answer ea f))
 
@@ -123,15 +122,15 @@ module _ (reg : Bytes) (n : window_size < length reg) (e : get_or reg 0 0 ≡ 1)
             sym (by_tests ∙ ap (λ (t : Bool). leb 1 days && leb days max_days && t)
             (sym (end_by (first + days) (leb (first + days) (last_day + 1)) (leb (first + days - 1) last_day) refl refl)))
 
-        pub start_right : (leb 1 days && leb days max_days && leb (first + days) (last_day + 1)) ≡ true → From (record { first = first; days = days }) ≡ start_of reg
+        pub start_right : (leb 1 days && leb days max_days && leb (first + days) (last_day + 1)) ≡ true → Some (record { first = first; days = days }) ≡ start_of reg
         start_right t = sym (start-here ∙ rw (← tests_same, t, window-here))
 
-        pub start-wrong : (leb 1 days && leb days max_days && leb (first + days) (last_day + 1)) ≡ false → NoWindow ≡ start_of reg
+        pub start-wrong : (leb 1 days && leb days max_days && leb (first + days) (last_day + 1)) ≡ false → None ≡ start_of reg
         start-wrong t = sym (start-here ∙ rw (← tests_same, t))
 
 -- ---- WHAT A WINDOW KEEPS TO
 
-picked_start : (a : Bool) (v w : Window) → cond a (From v) NoWindow ≡ From w → (a ≡ true) × (w ≡ v)
+picked_start : (a : Bool) (v w : Window) → cond a (Some v) None ≡ Some w → (a ≡ true) × (w ≡ v)
 picked_start true v w e = (refl, cc)
 picked_start false v w e = let n : ◌≡◌ {A = ℕ} 0 1 = cc in absurd (omega arith)
 
@@ -155,14 +154,14 @@ window-kept body h =
       ends = omega (arith, leb-true (day_number (first_text body) + days_text body - 1) last_day (and_right (d && a && b) c h));
     }
 
-pub start-kept : (reg : Bytes) (w : Window) → start_of reg ≡ From w → Kept w
+pub start-kept : (reg : Bytes) (w : Window) → start_of reg ≡ Some w → Kept w
 unfolding start_of
 start-kept [] w e = let n : ◌≡◌ {A = ℕ} 0 1 = cc in absurd (omega arith)
 start-kept (k ∷ b) w e =
     let p = picked_start (eqb k 1 && leb window_size (length b) && is_window (take window_size b)) (window_of (take window_size b)) w e in
     rw p.1 (window-kept (take window_size b) (and_right (eqb k 1 && leb window_size (length b)) (is_window (take window_size b)) p.0))
 
-pub start_fits : (reg : Bytes) (w : Window) → start_of reg ≡ From w → window_size < length reg
+pub start_fits : (reg : Bytes) (w : Window) → start_of reg ≡ Some w → window_size < length reg
 unfolding start_of
 start_fits [] w e = let n : ◌≡◌ {A = ℕ} 0 1 = cc in absurd (omega arith)
 start_fits (k ∷ b) w e =

@@ -3,7 +3,7 @@
 use mathlib.Core.Path.{◌≡◌, refl}
 use mathlib.Core.List.{List, [], ◌∷◌}
 use mathlib.Core.Bool.{Bool, true, false, cond, ◌&&◌}
-use mathlib.Core.Option.{Option, none, some}
+use Rattle.std.specs.Prelude.{Option, Some, None}
 use Prim.Native.Nat.{ℕ, zero, suc, ◌+◌, ◌≤◌, ◌<◌}
 use native.Mathlib.Omega.{arith}
 use lib.Dec.{eqb, leb, ltb}
@@ -19,8 +19,7 @@ use Rattle.std.specs.declared.cmp.Ordering.TheVariants.{Less}
 use Rattle.padded.proofs.Bytewise.{less_of}
 use Rattle.registry.specs.Entry.{window_size, owner_size, meter_size, all_flags, is_meter, start_of, entry_kind}
 use Rattle.registry.specs.Registry.{Meter, Seen, max_meters, none_seen, with_owner, with_meter, in_order, meter_of, before, by_kind, entries, start_with, meters_in, registry_of, meters_of}
-use Rattle.registry.specs.declared.entry.Start.{Start}
-use Rattle.registry.specs.declared.entry.Start.TheVariants.{From, NoWindow}
+use Rattle.registry.specs.declared.entry.Window.{Window}
 use Rattle.registry.specs.declared.entry.Kind.{Kind}
 use Rattle.registry.specs.declared.entry.Kind.TheVariants.{Owner, Meter as AMeter, Broken}
 
@@ -106,23 +105,23 @@ pub data Read : Seen → List Meter → Type 0 where
   owner : {s : Seen} {ms : List Meter} (b : Bytes) → OwnerBody b → Read (with_owner b s) ms → Read s ms
   meter : {s : Seen} {ms : List Meter} (b : Bytes) → MeterBody b → Ordered s b → Read (with_meter b s) ms → Read s (meter_of s b ∷ ms)
 
-read-before : (s : Seen) (b : Bytes) (x : Option (List Meter)) (ms : List Meter) → MeterBody b → Ordered s b → before (meter_of s b) x ≡ some ms
-    → ((l : List Meter) → x ≡ some l → Read (with_meter b s) l) → Read s ms
-read-before s b none ms m o e ih = let n : ◌≡◌ {A = ℕ} 0 1 = cc in absurd (omega arith)
-read-before s b (some l) ms m o e ih = let f : ms ≡ meter_of s b ∷ l = cc in rw f (meter b m o (ih l refl))
+read-before : (s : Seen) (b : Bytes) (x : Option (List Meter)) (ms : List Meter) → MeterBody b → Ordered s b → before (meter_of s b) x ≡ Some ms
+    → ((l : List Meter) → x ≡ Some l → Read (with_meter b s) l) → Read s ms
+read-before s b None ms m o e ih = let n : ◌≡◌ {A = ℕ} 0 1 = cc in absurd (omega arith)
+read-before s b (Some l) ms m o e ih = let f : ms ≡ meter_of s b ∷ l = cc in rw f (meter b m o (ih l refl))
 
 read-meter : (s : Seen) (b : Bytes) (x : Option (List Meter)) (ms : List Meter) (t : Bool) → in_order s b ≡ t → MeterBody b
-    → cond t (before (meter_of s b) x) none ≡ some ms → ((l : List Meter) → x ≡ some l → Read (with_meter b s) l) → Read s ms
+    → cond t (before (meter_of s b) x) None ≡ Some ms → ((l : List Meter) → x ≡ Some l → Read (with_meter b s) l) → Read s ms
 read-meter s b x ms true o m e ih = read-before s b x ms m (ordered s b o) e ih
 read-meter s b x ms false o m e ih = let n : ◌≡◌ {A = ℕ} 0 1 = cc in absurd (omega arith)
 
-read-kind : (s : Seen) (k : Kind) (x y : Option (List Meter)) (ms : List Meter) → by_kind k x y ≡ some ms
-    → (k ≡ Owner → x ≡ some ms → Read s ms) → (k ≡ AMeter → y ≡ some ms → Read s ms) → Read s ms
+read-kind : (s : Seen) (k : Kind) (x y : Option (List Meter)) (ms : List Meter) → by_kind k x y ≡ Some ms
+    → (k ≡ Owner → x ≡ Some ms → Read s ms) → (k ≡ AMeter → y ≡ Some ms → Read s ms) → Read s ms
 read-kind s Owner x y ms e f g = f refl e
 read-kind s AMeter x y ms e f g = g refl e
 read-kind s Broken x y ms e f g = let n : ◌≡◌ {A = ℕ} 0 1 = cc in absurd (omega arith)
 
-read : (n : ℕ) (s : Seen) (b : Bytes) (ms : List Meter) → entries n s b ≡ some ms → Read s ms
+read : (n : ℕ) (s : Seen) (b : Bytes) (ms : List Meter) → entries n s b ≡ Some ms → Read s ms
 unfolding entries
 read zero s [] ms e = let f : ms ≡ [] = cc in rw f end
 read (suc n) s [] ms e = let n : ◌≡◌ {A = ℕ} 0 1 = cc in absurd (omega arith)
@@ -131,12 +130,12 @@ read zero s (k ∷ b) ms e =
     read-kind s (entry_kind (k ∷ b)) _ _ ms e (λ h f. owner b (owner-body k b h) (read owner_size (with_owner b s) b ms f))
     (λ h f. read-meter s b (entries meter_size (with_meter b s) b) ms (in_order s b) refl (meter-body k b h) f (read meter_size (with_meter b s) b))
 
--- the meters of a registry were read so; of one that breaks a rule there are none
+-- the meters of a registry were read so; of one that breaks a rule there are None
 pub meters-read : (reg : Bytes) → Read none_seen (meters_of reg)
 unfolding meters_of registry_of
 meters-read reg = go (start_of reg) (entries (window_size + 1) none_seen reg) refl
   where
-    go : (s : Start) (x : Option (List Meter)) → entries (window_size + 1) none_seen reg ≡ x → Read none_seen (meters_in (start_with s x))
-    go NoWindow x e = end
-    go (From w) none e = end
-    go (From w) (some ms) e = read (window_size + 1) none_seen reg ms e
+    go : (s : Option Window) (x : Option (List Meter)) → entries (window_size + 1) none_seen reg ≡ x → Read none_seen (meters_in (start_with s x))
+    go None x e = end
+    go (Some w) None e = end
+    go (Some w) (Some ms) e = read (window_size + 1) none_seen reg ms e

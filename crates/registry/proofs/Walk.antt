@@ -2,30 +2,29 @@
 -- Assumes nothing.
 use mathlib.Core.Path.{◌≡◌, refl, sym, ap, ◌∙◌}
 use mathlib.Core.List.{List, [], ◌∷◌, ◌++◌, append_assoc, append-nil}
-use mathlib.Core.Bool.{Bool, true, false, not}
+use mathlib.Core.Bool.{Bool, true, false, and-false}
 use mathlib.Core.Logic.{⊎_elim}
-use mathlib.Core.Option.{Option, none, some}
+use Rattle.std.specs.Prelude.{Option, Some, None, IfSome}
 use Prim.Native.Nat.{ℕ, zero, suc, ◌+◌, ◌≤◌, ◌<◌}
 use native.Mathlib.Nat.{eq-or-lt_of_le}
 use native.Mathlib.Omega.{arith}
-use lib.ListN.{length, drop, get_or, set, length-append, length-drop, length-set, get_or-append}
+use lib.ListN.{length, take, drop, get_or, set, length-append, length-drop, length-set, get_or-append}
 use lib.Seq.{drop-drop, get_or-drop, get_or_at, get_or-set_same, get_or-set_other}
-use borrow.Author.Tests.{not-true, not-false}
+use borrow.Author.Tests.{lt-ltb, le-ltb}
 use Rattle.text.specs.Byte.{Bytes}
 use Rattle.text.specs.Identifier.{esi_id_size}
 use Rattle.text.proofs.Left.{left-cons, left-none}
+use Rattle.padded.specs.Order.{below}
 use Rattle.registry.specs.Entry.{window_size, owner_size, meter_size, start_of, entry_kind}
 use Rattle.registry.specs.Registry.{Meter, Seen, max_meters, none_seen, with_owner, with_meter, in_order, meter_of, before, entries, start_with, registry_of, is_registry, meters_of, no_window, window_is}
-use Rattle.registry.specs.Index.{bytes_at, seen_at, no_meter, MeterAt, OwnerAt, Indexes}
-use Rattle.registry.specs.declared.Index.{Index}
+use Rattle.registry.specs.Index.{bytes_at, seen_at, no_meter, no_place, MeterAt, OwnerAt, Indexes, index_of}
+use Rattle.registry.specs.declared.Place.{Place}
 use Rattle.registry.specs.declared.entry.Window.{Window}
-use Rattle.registry.specs.declared.entry.Start.{Start}
-use Rattle.registry.specs.declared.entry.Start.TheVariants.{From, NoWindow}
 use Rattle.registry.specs.declared.entry.Kind.{Kind}
 use Rattle.registry.specs.declared.entry.Kind.TheVariants.{Owner, Meter as AMeter, Broken}
-use Rattle.registry.proofs.Entries.{text_at_lem}
-use Rattle.registry.proofs.Opening.{start-kept, start_fits}
-use Rattle.registry.proofs.Reading.{owner-body, meter-body, Ordered, ordered}
+use Rattle.registry.proofs.Entries.{text-length}
+use Rattle.registry.proofs.Opening.{start_fits}
+use Rattle.registry.proofs.Reading.{owner-body, meter-body}
 
 -- ---- one entry on
 
@@ -55,7 +54,7 @@ module _ (reg : Bytes) (at : ℕ) (h : at < length reg) where
       omega (arith, rw (length-drop (at + 1) reg) at (meter-body (get_or reg at 0) (drop (at + 1) reg) (kind-here AMeter e)).whole)
 
   module _ (s : Seen) where
-    at_broken : entry_kind (drop at reg) ≡ Broken → entries 0 s (drop at reg) ≡ none
+    at_broken : entry_kind (drop at reg) ≡ Broken → entries 0 s (drop at reg) ≡ None
     unfolding entries
     at_broken e = rw (left-cons reg at h, kind-here Broken e)
 
@@ -70,7 +69,7 @@ module _ (reg : Bytes) (at : ℕ) (h : at < length reg) where
         rw (left-cons reg at h, kind-here AMeter e, o)
         (ap (before (meter_of s (drop (at + 1) reg))) (behind meter_size (with_meter (drop (at + 1) reg) s) (meter-fits e)))
 
-    at_disorder : entry_kind (drop at reg) ≡ AMeter → in_order s (drop (at + 1) reg) ≡ false → entries 0 s (drop at reg) ≡ none
+    at_disorder : entry_kind (drop at reg) ≡ AMeter → in_order s (drop (at + 1) reg) ≡ false → entries 0 s (drop at reg) ≡ None
     unfolding entries
     at_disorder e o = rw (left-cons reg at h, kind-here AMeter e, o)
 
@@ -78,105 +77,113 @@ module _ (reg : Bytes) (at : ℕ) (h : at < length reg) where
 
 -- the meters of the entries passed, before those of the rest
 abbrev after : List Meter → Option (List Meter) → Option (List Meter)
-after done none = none
-after done (some ms) = some (done ++ ms)
+after done None = None
+after done (Some ms) = Some (done ++ ms)
 
 after_none : (x : Option (List Meter)) → after [] x ≡ x
-after_none none = refl
-after_none (some ms) = refl
+after_none None = refl
+after_none (Some ms) = refl
 
 after-before : (done : List Meter) (m : Meter) (x : Option (List Meter)) → after done (before m x) ≡ after (done ++ (m ∷ [])) x
-after-before done m none = refl
-after-before done m (some ms) = ap {B = Option (List Meter)} some (sym (append_assoc done (m ∷ []) ms))
+after-before done m None = refl
+after-before done m (Some ms) = ap {B = Option (List Meter)} Some (sym (append_assoc done (m ∷ []) ms))
 
-pub record Walked (reg : Bytes) (window : Window) (meters owners : List ℕ) (at owner last count : ℕ) : Type 0 where
-  pub start : start_of reg ≡ From window
+pub record Walked (reg : Bytes) (window : Window) (places : List Place) (at : ℕ) (owner last : Option ℕ) (count : ℕ) : Type 0 where
+  pub start : start_of reg ≡ Some window
   pub done : List Meter
   pub rest : entries (window_size + 1) none_seen reg ≡ after done (entries 0 (seen_at reg owner last count) (drop at reg))
   pub counted : length done ≡ count
-  pub from : window_size < at
   pub within : at ≤ length reg
-  pub owner-whole : 0 < owner → owner + owner_size < length reg
-  pub last-whole : 0 < last → last + meter_size < length reg
-  pub meters-size : length meters ≡ max_meters
-  pub owners-size : length owners ≡ max_meters
+  pub owner-whole : IfSome owner (λ p. p + owner_size < length reg)
+  pub last-whole : IfSome last (λ p. p + meter_size < length reg)
+  pub size : length places ≡ max_meters
   pub most : count ≤ max_meters
-  pub meter-at : (m : ℕ) → m < count → MeterAt reg (get_or meters m 0) (get_or done m no_meter)
-  pub owner_at : (m : ℕ) → m < count → OwnerAt reg (get_or owners m 0) (get_or done m no_meter)
+  pub meter-at : (m : ℕ) → m < count → MeterAt reg (get_or places m no_place).meter (get_or done m no_meter)
+  pub owner_at : (m : ℕ) → m < count → OwnerAt reg (get_or places m no_place).owner (get_or done m no_meter)
 
 -- behind the window the walk begins
-pub walk_start : (reg : Bytes) (s : Start) (w : Window) (meters owners : List ℕ) → s ≡ start_of reg → s ≡ From w → length meters ≡ max_meters
-    → length owners ≡ max_meters → Walked reg w meters owners (window_size + 1) 0 0 0
-walk_start reg s w meters owners es e hm ho =
-    let f : start_of reg ≡ From w = sym es ∙ e in
+pub walk_start : (reg : Bytes) (s : Option Window) (w : Window) (places : List Place) → s ≡ start_of reg → s ≡ Some w → length places ≡ max_meters
+    → Walked reg w places (window_size + 1) None None 0
+walk_start reg s w places es e size =
+    let f : start_of reg ≡ Some w = sym es ∙ e in
     record {
       start = f;
       done = [];
       rest = skip (window_size + 1) none_seen reg (start_fits reg w f) ∙ sym (after_none (entries 0 none_seen (drop (window_size + 1) reg)));
       counted = refl;
-      from = omega arith;
       within = start_fits reg w f;
-      owner-whole = λ h. absurd (omega arith);
-      last-whole = λ h. absurd (omega arith);
-      meters-size = hm;
-      owners-size = ho;
+      owner-whole = tt;
+      last-whole = tt;
+      size = size;
       most = omega arith;
       meter-at = λ m h. absurd (omega arith);
       owner_at = λ m h. absurd (omega arith);
     }
 
 -- one more place, of one more meter
-module _ (P : ℕ → Meter → Type 0) (places : List ℕ) (done : List Meter) {count : ℕ} (place : ℕ) (m : Meter) (n : length done ≡ count)
-    (room : count < length places) (each : (i : ℕ) → i < count → P (get_or places i 0) (get_or done i no_meter)) (new : P place m) where
-  one_more_lem : (i : ℕ) → i < count + 1 → P (get_or (set places count place) i 0) (get_or (done ++ (m ∷ [])) i no_meter)
+module _ (P : Place → Meter → Type 0) (places : List Place) (done : List Meter) {count : ℕ} (place : Place) (m : Meter) (n : length done ≡ count)
+    (room : count < length places) (each : (i : ℕ) → i < count → P (get_or places i no_place) (get_or done i no_meter)) (new : P place m) where
+  one_more_lem : (i : ℕ) → i < count + 1 → P (get_or (set places count place) i no_place) (get_or (done ++ (m ∷ [])) i no_meter)
   one_more_lem i l = ⊎_elim last_one earlier (eq-or-lt_of_le (let k : i ≤ count = omega arith in k))
     where
-      last_one : i ≡ count → P (get_or (set places count place) i 0) (get_or (done ++ (m ∷ [])) i no_meter)
-      last_one q = rw (q, get_or-set_same places count place 0 room, get_or_at done m [] no_meter count n) new
+      last_one : i ≡ count → P (get_or (set places count place) i no_place) (get_or (done ++ (m ∷ [])) i no_meter)
+      last_one q = rw (q, get_or-set_same places count place no_place room, get_or_at done m [] no_meter count n) new
 
-      earlier : i < count → P (get_or (set places count place) i 0) (get_or (done ++ (m ∷ [])) i no_meter)
+      earlier : i < count → P (get_or (set places count place) i no_place) (get_or (done ++ (m ∷ [])) i no_meter)
       earlier q =
           let d : i ≡ count → ⊥ = λ r. omega arith in
-          rw (get_or-set_other places count i place 0 d, get_or-append done (m ∷ []) no_meter i (omega arith)) (each i q)
+          rw (get_or-set_other places count i place no_place d, get_or-append done (m ∷ []) no_meter i (omega arith)) (each i q)
 
-some-owner : (reg : Bytes) (owner : ℕ) → 0 < length (bytes_at owner_size reg owner) → 0 < owner
-some-owner reg zero h = absurd (omega arith)
-some-owner reg (suc p) h = omega arith
+nothing : (s : Option Window) → start_with s None ≡ None
+nothing None = refl
+nothing (Some w) = refl
 
-nothing : (s : Start) → start_with s none ≡ none
-nothing NoWindow = refl
-nothing (From w) = refl
+broken : (reg : Bytes) → registry_of reg ≡ None → None ≡ index_of reg
+unfolding is_registry index_of
+broken reg e = rw e
 
-module _ {reg : Bytes} {window : Window} {meters owners : List ℕ} {at owner last count : ℕ} (w : Walked reg window meters owners at owner last count)
+-- a meter that may not stand here, or may
+module _ (reg : Bytes) (owner last : Option ℕ) (count at : ℕ) where
+  unowned : owner ≡ None → in_order (seen_at reg owner last count) (drop (at + 1) reg) ≡ false
+  unfolding in_order
+  unowned e = rw e
+
+  full : max_meters ≤ count → in_order (seen_at reg owner last count) (drop (at + 1) reg) ≡ false
+  unfolding in_order
+  full h = rw (le-ltb count max_meters h, and-false)
+
+  not_below : below (bytes_at esi_id_size reg last) (take esi_id_size (drop (at + 1) reg)) ≡ false → in_order (seen_at reg owner last count) (drop (at + 1) reg) ≡ false
+  unfolding in_order
+  not_below e = rw (e, and-false)
+
+  ordered-by : (p : ℕ) → owner ≡ Some p → p + owner_size < length reg → count < max_meters → below (bytes_at esi_id_size reg last) (take esi_id_size (drop (at + 1) reg)) ≡ true
+      → in_order (seen_at reg owner last count) (drop (at + 1) reg) ≡ true
+  unfolding in_order
+  ordered-by p e w c b = rw (e, text-length reg p owner_size w, lt-ltb count max_meters c, b)
+
+module _ {reg : Bytes} {window : Window} {places : List Place} {at : ℕ} {owner last : Option ℕ} {count : ℕ} (w : Walked reg window places at owner last count)
     (h : at < length reg) (kind : Kind) (ek : kind ≡ entry_kind (drop at reg)) where
   -- a broken rule at a later entry breaks the registry
-  stopped : entries 0 (seen_at reg owner last count) (drop at reg) ≡ none → registry_of reg ≡ none
-  unfolding registry_of
-  stopped e = ap (start_with (start_of reg)) (w.rest ∙ ap (after w.done) e) ∙ nothing (start_of reg)
+  stopped : entries 0 (seen_at reg owner last count) (drop at reg) ≡ None → None ≡ index_of reg
+  unfolding registry_of is_registry index_of
+  stopped e = broken reg (ap (start_with (start_of reg)) (w.rest ∙ ap (after w.done) e) ∙ nothing (start_of reg))
 
-  pub walk_broken : kind ≡ Broken → registry_of reg ≡ none
+  pub walk_broken : kind ≡ Broken → None ≡ index_of reg
   walk_broken e = stopped (at_broken reg at h (seen_at reg owner last count) (sym ek ∙ e))
 
   -- AN OWNER
-  pub walk_owner : kind ≡ Owner → Walked reg window meters owners (at + (owner_size + 1)) at last count
+  pub walk_owner : kind ≡ Owner → Walked reg window places (at + (owner_size + 1)) (Some at) last count
   walk_owner e =
       let k : entry_kind (drop at reg) ≡ Owner = sym ek ∙ e in
       record {
         start = w.start;
         done = w.done;
-        rest =
-            w.rest
-            ∙ ap (after w.done)
-            (at-owner reg at h (seen_at reg owner last count) k
-            ∙ ap (λ (o : Bytes). entries 0 (record { owner = o; last = bytes_at esi_id_size reg last; count = count }) (drop (at + (owner_size + 1)) reg))
-            (sym (text_at_lem owner_size reg at (omega (arith, w.from)))));
+        rest = w.rest ∙ ap (after w.done) (at-owner reg at h (seen_at reg owner last count) k);
         counted = w.counted;
-        from = omega (arith, w.from);
         within = omega (arith, owner-fits reg at h k);
-        owner-whole = λ _. owner-fits reg at h k;
+        owner-whole = owner-fits reg at h k;
         last-whole = w.last-whole;
-        meters-size = w.meters-size;
-        owners-size = w.owners-size;
+        size = w.size;
         most = w.most;
         meter-at = w.meter-at;
         owner_at = w.owner_at;
@@ -190,28 +197,21 @@ module _ {reg : Bytes} {window : Window} {meters owners : List ℕ} {at owner la
     pub meter-whole : at + meter_size < length reg
     meter-whole = meter-fits reg at h is-meter
 
-    module _ (o : Bool) (eo : o ≡ in_order (seen_at reg owner last count) (drop (at + 1) reg)) where
-      pub walk_disorder : not o ≡ true → registry_of reg ≡ none
-      walk_disorder f = stopped (at_disorder reg at h (seen_at reg owner last count) is-meter (sym eo ∙ not-true o f))
+    disordered : in_order (seen_at reg owner last count) (drop (at + 1) reg) ≡ false → None ≡ index_of reg
+    disordered f = stopped (at_disorder reg at h (seen_at reg owner last count) is-meter f)
 
-      module _ (ho : not o ≡ false) where
-        in_order_lem : in_order (seen_at reg owner last count) (drop (at + 1) reg) ≡ true
-        in_order_lem = sym eo ∙ not-false o ho
+    pub walk_unowned : owner ≡ None → None ≡ index_of reg
+    walk_unowned e = disordered (unowned reg owner last count at e)
 
-        kept : Ordered (seen_at reg owner last count) (drop (at + 1) reg)
-        kept = ordered (seen_at reg owner last count) (drop (at + 1) reg) in_order_lem
+    pub walk_full : max_meters ≤ count → None ≡ index_of reg
+    walk_full e = disordered (full reg owner last count at e)
 
-        pub room : count < max_meters
-        room = kept.room
+    module _ (b : Bool) (eb : b ≡ below (bytes_at esi_id_size reg last) (take esi_id_size (drop (at + 1) reg))) where
+      pub walk_disorder : b ≡ false → None ≡ index_of reg
+      walk_disorder f = disordered (not_below reg owner last count at (sym eb ∙ f))
 
-        owned : 0 < owner
-        owned = some-owner reg owner kept.owned
-
-        m : Meter
-        m = meter_of (seen_at reg owner last count) (drop (at + 1) reg)
-
-        here : MeterAt reg at m
-        unfolding m
+      module _ (p : ℕ) (eo : owner ≡ Some p) (room : count < max_meters) (hb : b ≡ true) where
+        here : MeterAt reg at (meter_of (seen_at reg owner last count) (drop (at + 1) reg))
         here =
             let n : at + 1 + esi_id_size ≡ at + meter_size = omega arith in
             record {
@@ -220,68 +220,53 @@ module _ {reg : Bytes} {window : Window} {meters owners : List ℕ} {at owner la
               flags = get_or-drop (at + 1) reg esi_id_size 0 ∙ ap (λ (i : ℕ). get_or reg i 0) n;
             }
 
-        theirs : OwnerAt reg owner m
-        unfolding m
-        theirs = record { whole = omega (arith, w.owner-whole owned); owner = text_at_lem owner_size reg owner owned }
+        theirs : OwnerAt reg p (meter_of (seen_at reg owner last count) (drop (at + 1) reg))
+        theirs = let l : p + owner_size < length reg = rw eo at w.owner-whole in record { whole = omega arith; owner = rw eo }
 
-        pub walk_meter : Walked reg window (set meters count at) (set owners count owner) (at + (meter_size + 1)) owner at (count + 1)
-        unfolding m
-        walk_meter = record {
-          start = w.start;
-          done = w.done ++ (m ∷ []);
-          rest =
-              w.rest
-              ∙ ap (after w.done) (at-meter reg at h (seen_at reg owner last count) is-meter in_order_lem)
-              ∙ after-before w.done m (entries 0 (with_meter (drop (at + 1) reg) (seen_at reg owner last count)) (drop (at + (meter_size + 1)) reg))
-              ∙ ap (λ (t : Bytes). after (w.done ++ (m ∷ [])) (entries 0 (record { owner = bytes_at owner_size reg owner; last = t; count = count + 1 }) (drop (at + (meter_size + 1)) reg)))
-              (sym (text_at_lem esi_id_size reg at (omega (arith, w.from))));
-          counted = length-append w.done (m ∷ []) ∙ ap (λ (n : ℕ). n + 1) w.counted;
-          from = omega (arith, w.from);
-          within = omega (arith, meter-whole);
-          owner-whole = w.owner-whole;
-          last-whole = λ _. meter-whole;
-          meters-size = length-set meters count at ∙ w.meters-size;
-          owners-size = length-set owners count owner ∙ w.owners-size;
-          most = omega (arith, room);
-          meter-at = one_more_lem (MeterAt reg) meters w.done at m w.counted (omega (arith, room, w.meters-size)) w.meter-at here;
-          owner_at = one_more_lem (OwnerAt reg) owners w.done owner m w.counted (omega (arith, room, w.owners-size)) w.owner_at theirs;
-        }
+        pub walk_meter : Walked reg window (set places count (record { meter = at; owner = p })) (at + (meter_size + 1)) owner (Some at) (count + 1)
+        walk_meter =
+            let m : Meter = meter_of (seen_at reg owner last count) (drop (at + 1) reg) in
+            record {
+              start = w.start;
+              done = w.done ++ (m ∷ []);
+              rest =
+                  w.rest
+                  ∙ ap (after w.done) (at-meter reg at h (seen_at reg owner last count) is-meter (ordered-by reg owner last count at p eo (rw eo at w.owner-whole) room (sym eb ∙ hb)))
+                  ∙ after-before w.done m (entries 0 (with_meter (drop (at + 1) reg) (seen_at reg owner last count)) (drop (at + (meter_size + 1)) reg));
+              counted = length-append w.done (m ∷ []) ∙ ap (λ (n : ℕ). n + 1) w.counted;
+              within = omega (arith, meter-whole);
+              owner-whole = w.owner-whole;
+              last-whole = meter-whole;
+              size = length-set places count _ ∙ w.size;
+              most = omega (arith, room);
+              meter-at = one_more_lem (λ q. MeterAt reg q.meter) places w.done (record { meter = at; owner = p }) m w.counted (omega (arith, room, w.size)) w.meter-at here;
+              owner_at = one_more_lem (λ q. OwnerAt reg q.owner) places w.done (record { meter = at; owner = p }) m w.counted (omega (arith, room, w.size)) w.owner_at theirs;
+            }
 
 -- ---- WHAT IS RETURNED
 
-pub start_broken : (reg : Bytes) (s : Start) → s ≡ start_of reg → s ≡ NoWindow → registry_of reg ≡ none
+pub start_broken : (reg : Bytes) (s : Option Window) → s ≡ start_of reg → s ≡ None → None ≡ index_of reg
 unfolding registry_of
-start_broken reg s es e = rw (sym es ∙ e)
+start_broken reg s es e = broken reg (rw (sym es ∙ e))
 
-pub index_broken : (reg : Bytes) (r : Index) → (r.sound ≡ false) × (r.window ≡ no_window) × (r.count ≡ 0) → registry_of reg ≡ none → Indexes reg r
-unfolding is_registry meters_of window_is
-index_broken reg r b e =
-    let n : r.count ≡ 0 = b.2 in
-    record {
-      sound = rw e b.0;
-      window = rw e b.1;
-      most = omega arith;
-      days = rw b.1 (omega arith);
-      ends = rw b.1 (omega arith);
-      meters = record { counted = rw (e, n); room = omega arith; each = λ m h. absurd (omega arith) };
-      owners = record { counted = rw (e, n); room = omega arith; each = λ m h. absurd (omega arith) };
-    }
-
-module _ (reg : Bytes) (r : Index) {at owner last : ℕ} (w : Walked reg r.window r.meters r.owners at owner last r.count) (h : length reg ≤ at) where
-  whole : registry_of reg ≡ some (record { window = r.window; meters = w.done })
+module _ (reg : Bytes) (window : Window) (places : List Place) (count : ℕ) {at : ℕ} {owner last : Option ℕ} (w : Walked reg window places at owner last count) (h : length reg ≤ at) where
+  whole : registry_of reg ≡ Some (record { window = window; meters = w.done })
   unfolding registry_of entries
   whole =
-      let e : entries (window_size + 1) none_seen reg ≡ some w.done = w.rest ∙ rw (left-none reg at h, append-nil) in
+      let e : entries (window_size + 1) none_seen reg ≡ Some w.done = w.rest ∙ rw (left-none reg at h, append-nil) in
       rw (w.start, e)
 
-  pub index_sound : r.sound ≡ true → Indexes reg r
+  pub index-whole : Indexes reg window count places
   unfolding is_registry meters_of window_is
-  index_sound s = record {
-    sound = rw whole s;
-    window = rw whole;
-    most = w.most;
-    days = (start-kept reg r.window w.start).few;
-    ends = (start-kept reg r.window w.start).ends;
-    meters = record { counted = rw whole w.counted; room = omega (arith, w.most, w.meters-size); each = λ m i. rw whole (w.meter-at m i) };
-    owners = record { counted = rw whole w.counted; room = omega (arith, w.most, w.owners-size); each = λ m i. rw whole (w.owner_at m i) };
+  index-whole = record {
+    rules = rw whole;
+    windowed = rw whole;
+    counted = rw whole w.counted;
+    room = omega (arith, w.most, w.size);
+    meter = λ m i. rw whole (w.meter-at m i);
+    owner = λ m i. rw whole (w.owner_at m i);
   }
+
+  pub index_sound : Some reg ≡ index_of reg
+  unfolding index_of
+  index_sound = rw index-whole.rules

@@ -1,6 +1,6 @@
 -- Entries of the registry: a kind byte, then a body. Document 01, "Registry and cells".
 -- Assumes nothing.
-use Rattle.std.specs.Prelude.{[], ◌∷◌, Bool, cond, ◌&&◌, ℕ, ◌+◌, ◌-◌, eqb, leb, length, take, drop, get_or}
+use Rattle.std.specs.Prelude.{Option, Some, None, [], ◌∷◌, Bool, cond, ◌&&◌, ℕ, ◌+◌, ◌-◌, eqb, leb, length, take, drop, get_or}
 use Rattle.calendar.specs.Date.{is_date}
 use Rattle.calendar.specs.Day.{day_number, last_day}
 use Rattle.text.specs.Byte.{Bytes, is_digit, every}
@@ -8,8 +8,6 @@ use Rattle.text.specs.Number.{number}
 use Rattle.text.specs.Identifier.{esi_id_size, duns_size}
 use Rattle.padded.specs.Padding.{is_padded_esi_id, is_padded_duns}
 use Rattle.registry.specs.declared.entry.Window.{Window}
-use Rattle.registry.specs.declared.entry.Start.{Start}
-use Rattle.registry.specs.declared.entry.Start.TheVariants.{From, NoWindow}
 use Rattle.registry.specs.declared.entry.Kind.{Kind}
 use Rattle.registry.specs.declared.entry.Kind.TheVariants.{Owner, Meter, Broken}
 
@@ -52,11 +50,11 @@ window_of body = record { first = day_number (first_text body); days = days_text
 unfoldable pub is_meter : Bytes → Bool
 is_meter body = is_padded_esi_id (take esi_id_size body) && leb (get_or body esi_id_size 0) all_flags
 
--- What the registry begins with: kind 1, whole and right, or not.
-unfoldable pub start_of : Bytes → Start
-start_of [] = NoWindow
+-- The window that the registry begins with: kind 1, whole and right, or none.
+unfoldable pub start_of : Bytes → Option Window
+start_of [] = None
 start_of (kind ∷ b) =
-    cond (eqb kind 1 && leb window_size (length b) && is_window (take window_size b)) (From (window_of (take window_size b))) NoWindow
+    cond (eqb kind 1 && leb window_size (length b) && is_window (take window_size b)) (Some (window_of (take window_size b))) None
 
 -- What stands at the head of the bytes behind it: an entry of kind 2 or 3, whole and right, or not. Kind 2 is an owner's DUNS, padded.
 unfoldable pub entry_kind : Bytes → Kind

@@ -1,22 +1,20 @@
 -- The index of a registry, and the meter of an ESI ID, in the definition's words.
 -- Assumes nothing.
-use Rattle.std.specs.Prelude.{◌≡◌, List, [], ◌∷◌, cond, ℕ, zero, suc, ◌+◌, ◌≤◌, ◌<◌, length, take, drop, get_or}
-use Rattle.calendar.specs.Day.{last_day}
+use Rattle.std.specs.Prelude.{◌≡◌, List, [], ◌∷◌, true, cond, ℕ, suc, ◌+◌, ◌≤◌, ◌<◌, length, take, drop, get_or, Option, Some, None}
 use Rattle.text.specs.Byte.{Bytes, equals}
 use Rattle.text.specs.Identifier.{esi_id_size}
-use Rattle.registry.specs.Entry.{owner_size, meter_size, max_days}
-use Rattle.registry.specs.Registry.{Meter, Seen, max_meters, is_registry, meters_of, window_is}
-use Rattle.registry.specs.declared.Index.{Index}
-use Rattle.registry.specs.declared.Found.{Found}
-use Rattle.registry.specs.declared.Found.TheVariants.{At, Unknown}
+use Rattle.registry.specs.Entry.{owner_size, meter_size}
+use Rattle.registry.specs.Registry.{Meter, Seen, is_registry, meters_of, window_is}
+use Rattle.registry.specs.declared.entry.Window.{Window}
+use Rattle.registry.specs.declared.Place.{Place}
 
--- The text of n bytes of the entry at a place. The window stands at place 0: it is no owner's and no meter's, and has no such text.
-abbrev pub bytes_at : ℕ → Bytes → ℕ → Bytes
-bytes_at n reg zero = []
-bytes_at n reg (suc p) = take n (drop (suc p + 1) reg)
+-- the text of n bytes of the entry at a place, if there is one
+abbrev pub bytes_at : ℕ → Bytes → Option ℕ → Bytes
+bytes_at n reg None = []
+bytes_at n reg (Some p) = take n (drop (p + 1) reg)
 
--- what is seen where the last owner and the last meter stand at these places, 0 for none
-abbrev pub seen_at : Bytes → ℕ → ℕ → ℕ → Seen
+-- what is seen where the last owner and the last meter stand at these places
+abbrev pub seen_at : Bytes → Option ℕ → Option ℕ → ℕ → Seen
 seen_at reg owner last count = record { owner = bytes_at owner_size reg owner; last = bytes_at esi_id_size reg last; count = count }
 
 abbrev pub no_meter : Meter
@@ -37,27 +35,27 @@ pub record OwnerAt (reg : Bytes) (place : ℕ) (m : Meter) : Type 0 where
   pub whole : place + (owner_size + 1) ≤ length reg
   pub owner : m.owner ≡ take owner_size (drop (place + 1) reg)
 
--- the first `count` of these places belong to the registry's meters, in order, as `At` says
-pub record Places (reg : Bytes) (At : Bytes → ℕ → Meter → Type 0) (places : List ℕ) (count : ℕ) : Type 0 where
+abbrev pub no_place : Place
+no_place = record { meter = 0; owner = 0 }
+
+-- what an index holds of its registry: that it breaks no rule, its window, and the places of its meters and their owners
+pub record Indexes (reg : Bytes) (window : Window) (count : ℕ) (places : List Place) : Type 0 where
+  pub rules : is_registry reg ≡ true
+  pub windowed : window ≡ window_is reg
   pub counted : length (meters_of reg) ≡ count
   pub room : count ≤ length places
-  pub each : (m : ℕ) → m < count → At reg (get_or places m 0) (meter_at reg m)
+  pub meter : (m : ℕ) → m < count → MeterAt reg (get_or places m no_place).meter (meter_at reg m)
+  pub owner : (m : ℕ) → m < count → OwnerAt reg (get_or places m no_place).owner (meter_at reg m)
 
--- what an index says of its registry
-pub record Indexes (reg : Bytes) (r : Index) : Type 0 where
-  pub sound : r.sound ≡ is_registry reg
-  pub window : r.window ≡ window_is reg
-  pub most : r.count ≤ max_meters
-  pub days : r.window.days ≤ max_days
-  pub ends : r.window.first + r.window.days ≤ last_day + 1
-  pub meters : Places reg MeterAt r.meters r.count
-  pub owners : Places reg OwnerAt r.owners r.count
+-- the index of a registry, which in a clause is its bytes; none, if it breaks a rule
+unfoldable pub index_of : Bytes → Option Bytes
+index_of reg = cond (is_registry reg) (Some reg) None
 
-abbrev pub onward : Found → Found
-onward (At i) = At (suc i)
-onward Unknown = Unknown
+abbrev pub onward : Option ℕ → Option ℕ
+onward (Some i) = Some (suc i)
+onward None = None
 
 -- the place among the meters, from 0, of the one with this ESI ID, padded
-unfoldable pub find_meter : Bytes → List Meter → Found
-find_meter id [] = Unknown
-find_meter id (m ∷ ms) = cond (equals m.id id) (At 0) (onward (find_meter id ms))
+unfoldable pub find_meter : Bytes → List Meter → Option ℕ
+find_meter id [] = None
+find_meter id (m ∷ ms) = cond (equals m.id id) (Some 0) (onward (find_meter id ms))

@@ -1,14 +1,11 @@
 -- The registry that bytes are: one walk over its entries. Document 01, "Registry and cells".
 -- Assumes nothing.
-use Rattle.std.specs.Prelude.{List, [], ◌∷◌, Bool, true, false, cond, ◌&&◌, ℕ, zero, suc, ◌+◌, ltb, length, take, get_or}
-use Rattle.std.proofs.Math.Option.{Option, none, some}
+use Rattle.std.specs.Prelude.{Option, Some, None, is_some, List, [], ◌∷◌, Bool, true, false, cond, ◌&&◌, ℕ, zero, suc, ◌+◌, ltb, length, take, get_or}
 use Rattle.text.specs.Byte.{Bytes}
 use Rattle.text.specs.Identifier.{esi_id_size}
 use Rattle.padded.specs.Order.{below}
 use Rattle.registry.specs.Entry.{window_size, owner_size, meter_size, start_of, entry_kind}
 use Rattle.registry.specs.declared.entry.Window.{Window}
-use Rattle.registry.specs.declared.entry.Start.{Start}
-use Rattle.registry.specs.declared.entry.Start.TheVariants.{From, NoWindow}
 use Rattle.registry.specs.declared.entry.Kind.{Kind}
 use Rattle.registry.specs.declared.entry.Kind.TheVariants.{Owner, Meter as AMeter, Broken}
 
@@ -49,47 +46,43 @@ abbrev pub meter_of : Seen → Bytes → Meter
 meter_of s b = record { id = take esi_id_size b; flags = get_or b esi_id_size 0; owner = s.owner }
 
 abbrev pub before : Meter → Option (List Meter) → Option (List Meter)
-before m none = none
-before m (some ms) = some (m ∷ ms)
+before m None = None
+before m (Some ms) = Some (m ∷ ms)
 
 abbrev pub by_kind : Kind → Option (List Meter) → Option (List Meter) → Option (List Meter)
 by_kind Owner owner meter = owner
 by_kind AMeter owner meter = meter
-by_kind Broken owner meter = none
+by_kind Broken owner meter = None
 
 -- The meters of the entries from here on, or none where a rule is broken. The first n bytes belong to the entry before.
 unfoldable pub entries : ℕ → Seen → Bytes → Option (List Meter)
-entries zero s [] = some []
-entries (suc n) s [] = none
+entries zero s [] = Some []
+entries (suc n) s [] = None
 entries (suc n) s (b ∷ bs) = entries n s bs
 entries zero s (kind ∷ b) =
     by_kind (entry_kind (kind ∷ b))
     (entries owner_size (with_owner b s) b)
-    (cond (in_order s b) (before (meter_of s b) (entries meter_size (with_meter b s) b)) none)
+    (cond (in_order s b) (before (meter_of s b) (entries meter_size (with_meter b s) b)) None)
 
-abbrev pub start_with : Start → Option (List Meter) → Option Registry
-start_with NoWindow x = none
-start_with (From w) none = none
-start_with (From w) (some ms) = some (record { window = w; meters = ms })
+abbrev pub start_with : Option Window → Option (List Meter) → Option Registry
+start_with None x = None
+start_with (Some w) None = None
+start_with (Some w) (Some ms) = Some (record { window = w; meters = ms })
 
 -- The registry, or none where the bytes break a rule. Kind 1 comes first, and once: `entries` knows no kind 1.
 unfoldable pub registry_of : Bytes → Option Registry
 registry_of b = start_with (start_of b) (entries (window_size + 1) none_seen b)
 
-abbrev pub is_some : Option Registry → Bool
-is_some none = false
-is_some (some r) = true
-
 abbrev pub meters_in : Option Registry → List Meter
-meters_in none = []
-meters_in (some r) = r.meters
+meters_in None = []
+meters_in (Some r) = r.meters
 
 abbrev pub no_window : Window
 no_window = record { first = 0; days = 0 }
 
 abbrev pub window_in : Option Registry → Window
-window_in none = no_window
-window_in (some r) = r.window
+window_in None = no_window
+window_in (Some r) = r.window
 
 -- whether the registry breaks no rule; its meters and its window, none of them where it does
 unfoldable pub is_registry : Bytes → Bool

@@ -29,21 +29,14 @@ const MAX_DAYS: u32 = 62;
 const ALL_FLAGS: u8 = 7;
 
 // The days of the window: the first one's number, and how many.
-#[derive(Clone, Copy)]
+#[derive(Clone, Copy, Debug, PartialEq, Eq)]
 pub struct Window {
     pub first: u32,
     pub days: u32,
 }
 
-// What the registry begins with.
-#[derive(Clone, Copy)]
-pub enum Start {
-    From(Window),
-    NoWindow,
-}
-
 // What stands at a later place of it.
-#[derive(Clone, Copy)]
+#[derive(Clone, Copy, Debug, PartialEq, Eq)]
 pub enum Kind {
     Owner,
     Meter,
@@ -60,28 +53,27 @@ pub fn text_at(registry: &[u8], place: usize, size: usize) -> &[u8]
     &registry[start..end]
 }
 
-pub fn read_start(registry: &[u8]) -> Start
+// The window that the registry begins with, if it does.
+pub fn read_start(registry: &[u8]) -> Option<Window>
     ensures { result ≡ start_of registry.now }
 {
     if registry.len() <= WINDOW_SIZE {
-        return Start::NoWindow;
+        return None;
     }
     if registry[0] != WINDOW_KIND {
-        return Start::NoWindow;
+        return None;
     }
     let body = text_at(registry, 0, WINDOW_SIZE);
     if !all_digits(body) {
-        return Start::NoWindow;
+        return None;
     }
     let date = number_of(&body[..DATE_SIZE]);
     let days = number_of(&body[DATE_SIZE..]);
-    let Some(first) = day_number(date) else {
-        return Start::NoWindow;
-    };
+    let first = day_number(date)?;
     if (1 <= days) & (days <= MAX_DAYS) & (first + days <= LAST_DAY + 1) {
-        return Start::From(Window { first, days });
+        return Some(Window { first, days });
     }
-    Start::NoWindow
+    None
 }
 
 pub fn kind_at(registry: &[u8], at: usize) -> Kind

@@ -1,208 +1,194 @@
 // The registry: its rules, an index of its meters, and the meter of an ESI ID.
 //
-//     let index = Index::of(registry);              // one walk over the bytes
-//     if !index.sound { .. }                        // a rule is broken: refused 2
-//     let meters = index.meters;
-//     match find(registry, &meters, index.count, hint, id) {   // the meter with this ESI ID, padded to 64 bytes
-//         Found::At(meter) => ..                    // from 0; flags(..) and is_owned(..) tell of it
-//         Found::Unknown => ..
-//     }
+//     let index = Index::of(registry)?;              // one walk over the bytes; none, where a rule is broken
+//     let meter = index.find(hint, id)?;             // the meter with this ESI ID, padded to 64 bytes: from 0, or none
+//     index.flags(meter) ..                          // id_of, owner_of and is_owned tell of it too
+//
+// In a clause an index is its registry's bytes: it holds them, and what else it holds of them is always true.
 //
 // For whoever changes it: the rules are specs/Entry.antt (one entry) and specs/Registry.antt (their order), by kind and size; the longest
 // window is `MAX_DAYS`. Owners are unlimited and a meter's owner is kept with the meter, so a registry may be of any length.
 #![tactic(auto)]
 
-ghost use Rattle.std.specs.Prelude.{◌≡◌, false, ◌+◌, ◌<◌, length, drop};
+ghost use Rattle.std.specs.Prelude.{◌≡◌, true, ◌+◌, ◌<◌, length, take, drop, IfSome};
 ghost use Rattle.text.specs.Byte.{equals};
 ghost use Rattle.text.specs.Identifier.{esi_id_size};
+ghost use Rattle.padded.specs.Order.{below};
 ghost use Rattle.registry.specs.Entry.{owner_size, meter_size};
-ghost use Rattle.registry.specs.Registry.{in_order, meters_of, no_window};
-ghost use Rattle.registry.specs.Index.{Indexes, Places, MeterAt, OwnerAt, meter_at, seen_at, find_meter};
+ghost use Rattle.registry.specs.Registry.{is_registry, meters_of, window_is};
+ghost use Rattle.registry.specs.Index.{bytes_at, index_of, meter_at, find_meter};
 
 pub mod entry;
 
-use entry::{
-    Kind, METER_SIZE, OWNER_SIZE, Start, WINDOW_SIZE, Window, kind_at, read_start, text_at,
-};
+use entry::{Kind, METER_SIZE, OWNER_SIZE, WINDOW_SIZE, Window, kind_at, read_start, text_at};
 use padded::order::compare;
 use std::cmp::Ordering;
+use std::marker::Model;
 use text::bytes::same;
 use text::names::ESI_ID_SIZE;
 
 pub const MAX_METERS: usize = 1000;
 
-// Whether the registry breaks no rule, its window, and the places of its meters' entries and of their owners'.
-#[derive(Clone, Copy)]
-pub struct Index {
-    pub sound: bool,
-    pub window: Window,
-    pub count: usize,
-    pub meters: [usize; MAX_METERS],
-    pub owners: [usize; MAX_METERS],
+// Where a meter's entry stands in the registry, and its owner's.
+#[derive(Clone, Copy, Debug, PartialEq, Eq)]
+pub struct Place {
+    pub meter: usize,
+    pub owner: usize,
 }
 
-// The place of a meter among the meters, from 0.
-#[derive(Clone, Copy)]
-pub enum Found {
-    At(usize),
-    Unknown,
+// A registry that breaks no rule, its window, and the places of its meters. A fixed array with a count, since nothing here is on a heap.
+#[derive(Drop)]
+pub struct Index<'a> {
+    registry: &'a [u8],
+    window: Window,
+    count: usize,
+    places: [Place; MAX_METERS],
 }
 
-// Whether a meter may stand at a place: the last owner and the last meter stand at these, 0 for none, and there are `count` meters so far.
-fn in_order(registry: &[u8], owner: usize, last: usize, count: usize, at: usize) -> bool
-    requires meter_size_in_bounds { at + meter_size < length registry.now }
-    requires owner_size_in_bounds { 0 < owner → owner + owner_size < length registry.now }
-    requires meter_size_in_bounds_2 { 0 < last → last + meter_size < length registry.now }
-    ensures { result ≡ in_order (seen_at registry.now owner last count) (drop (at + 1) registry.now) }
+impl<'a> Model for Index<'a> {
+    ghost use Rattle.std.specs.Prelude.{ℕ, List};
+
+    ghost Value = { List ℕ };
+
+    ghost use Rattle.registry.specs.Index.{Indexes};
+
+    ghost view = { λ i. i.registry.now };
+
+    ghost invariant = { λ i. Indexes i.registry.now i.window i.count i.places };
+}
+
+// Whether the meter at a place comes behind the last one, by their ESI IDs.
+fn comes_after(registry: &[u8], last: Option<usize>, at: usize) -> bool
+    requires whole { at + meter_size < length registry.now }
+    requires last_whole { IfSome last (λ p. p + meter_size < length registry.now) }
+    ensures { result ≡ below (bytes_at esi_id_size registry.now last) (take esi_id_size (drop (at + 1) registry.now)) }
 {
-    if owner == 0 {
-        return false;
-    }
-    if MAX_METERS <= count {
-        return false;
-    }
-    if last == 0 {
+    let Some(last) = last else {
         return true;
-    }
-    match compare(
-        text_at(registry, last, ESI_ID_SIZE),
-        text_at(registry, at, ESI_ID_SIZE),
-    ) {
-        Ordering::Less => true,
-        Ordering::Equal => false,
-        Ordering::Greater => false,
-    }
+    };
+    let id = text_at(registry, at, ESI_ID_SIZE);
+    compare(text_at(registry, last, ESI_ID_SIZE), id).is_lt()
 }
 
-fn broken() -> Index
-    ensures { (result.sound ≡ false) × (result.window ≡ no_window) × (result.count ≡ 0) }
-{
-    Index {
-        sound: false,
-        window: Window { first: 0, days: 0 },
-        count: 0,
-        meters: [0; MAX_METERS],
-        owners: [0; MAX_METERS],
-    }
-}
-
-impl Index {
-    // The index of a registry. A broken rule leaves no meter and no window.
-    pub fn of(registry: &[u8]) -> Index
-        ensures { Indexes registry.now result }
+impl<'a> Index<'a> {
+    // The index of a registry; none, if it breaks a rule.
+    pub fn of(registry: &'a [u8]) -> Option<Index<'a>>
+        ensures { result ≡ index_of registry.now }
     {
-        let Start::From(window) = read_start(registry) else {
-            return broken();
-        };
-        let mut meters = [0usize; MAX_METERS];
-        let mut owners = [0usize; MAX_METERS];
-        let mut at: usize = WINDOW_SIZE + 1;
-        let mut owner: usize = 0;
-        let mut last: usize = 0;
+        let window = read_start(registry)?;
+        let mut places = [Place { meter: 0, owner: 0 }; MAX_METERS];
         let mut count: usize = 0;
+        let mut owner: Option<usize> = None;
+        let mut last: Option<usize> = None;
+        let mut at: usize = WINDOW_SIZE + 1;
         while at < registry.len() {
             match kind_at(registry, at) {
                 Kind::Owner => {
-                    owner = at;
+                    owner = Some(at);
                     at += OWNER_SIZE + 1;
                 }
                 Kind::Meter => {
-                    if !in_order(registry, owner, last, count, at) {
-                        return broken();
+                    let theirs = owner?;
+                    if MAX_METERS <= count {
+                        return None;
                     }
-                    meters[count] = at;
-                    owners[count] = owner;
+                    if !comes_after(registry, last, at) {
+                        return None;
+                    }
+                    places[count] = Place {
+                        meter: at,
+                        owner: theirs,
+                    };
                     count += 1;
-                    last = at;
+                    last = Some(at);
                     at += METER_SIZE + 1;
                 }
-                Kind::Broken => {
-                    return broken();
-                }
+                Kind::Broken => return None,
             }
         }
-        Index {
-            sound: true,
+        Some(Index {
+            registry,
             window,
             count,
-            meters,
-            owners,
-        }
+            places,
+        })
     }
-}
 
-// The meter with an ESI ID, found by halves.
-fn search(registry: &[u8], meters: &[usize], count: usize, id: &[u8]) -> Found
-    requires places { Places registry.now MeterAt meters.now count }
-    requires id_len { length id.now ≡ esi_id_size }
-    ensures { result ≡ find_meter id.now (meters_of registry.now) }
-{
-    let mut low: usize = 0;
-    let mut high: usize = count;
-    while low < high {
-        let middle = low + (high - low) / 2;
-        match compare(text_at(registry, meters[middle], ESI_ID_SIZE), id) {
-            Ordering::Less => {
-                low = middle + 1;
-            }
-            Ordering::Equal => {
-                return Found::At(middle);
-            }
-            Ordering::Greater => {
-                high = middle;
+    pub fn window(&self) -> Window
+        ensures { (result ≡ window_is self.now) × (is_registry self.now ≡ true) }
+    {
+        self.window
+    }
+
+    // How many meters the registry has.
+    pub fn meters(&self) -> usize
+        ensures { result ≡ length (meters_of self.now) }
+    {
+        self.count
+    }
+
+    // The meter with an ESI ID, found by halves. By hand: a closure for `binary_search_by` must be callable at any place, and only an
+    // index's own places are known to be inside its registry.
+    fn search(&self, id: &[u8]) -> Option<usize>
+        requires { length id.now ≡ esi_id_size }
+        ensures { result ≡ find_meter id.now (meters_of self.now) }
+    {
+        let mut low: usize = 0;
+        let mut high: usize = self.count;
+        while low < high {
+            let middle = low + (high - low) / 2;
+            match compare(self.id_of(middle), id) {
+                Ordering::Less => low = middle + 1,
+                Ordering::Equal => return Some(middle),
+                Ordering::Greater => high = middle,
             }
         }
+        None
     }
-    Found::Unknown
-}
 
-// The meter with this ESI ID, padded. Where the hint is right, there is no search.
-pub fn find(registry: &[u8], meters: &[usize], count: usize, hint: usize, id: &[u8]) -> Found
-    requires places { Places registry.now MeterAt meters.now count }
-    requires id_len { length id.now ≡ esi_id_size }
-    ensures { result ≡ find_meter id.now (meters_of registry.now) }
-{
-    if hint < count {
-        if same(text_at(registry, meters[hint], ESI_ID_SIZE), id) {
-            return Found::At(hint);
+    // The meter with this ESI ID, padded. Where the hint is right, there is no search.
+    pub fn find(&self, hint: usize, id: &[u8]) -> Option<usize>
+        requires { length id.now ≡ esi_id_size }
+        ensures { result ≡ find_meter id.now (meters_of self.now) }
+    {
+        if hint < self.count {
+            if same(self.id_of(hint), id) {
+                return Some(hint);
+            }
         }
+        self.search(id)
     }
-    search(registry, meters, count, id)
-}
 
-// A meter's ESI ID, padded, and its owner's DUNS number, padded.
-pub fn id_of<'a>(registry: &'a [u8], meters: &[usize], count: usize, meter: usize) -> &'a [u8]
-    requires places { Places registry.now MeterAt meters.now count }
-    requires meter_lt_count { meter < count }
-    ensures { (result.now ≡ (meter_at registry.now meter).id) × (length result.now ≡ esi_id_size) }
-{
-    text_at(registry, meters[meter], ESI_ID_SIZE)
-}
+    // A meter's ESI ID, padded.
+    pub fn id_of(&self, meter: usize) -> &'a [u8]
+        requires { meter < length (meters_of self.now) }
+        ensures { (result.now ≡ (meter_at self.now meter).id) × (length result.now ≡ esi_id_size) }
+    {
+        text_at(self.registry, self.places[meter].meter, ESI_ID_SIZE)
+    }
 
-pub fn owner_of<'a>(registry: &'a [u8], owners: &[usize], count: usize, meter: usize) -> &'a [u8]
-    requires places { Places registry.now OwnerAt owners.now count }
-    requires meter_lt_count { meter < count }
-    ensures { (result.now ≡ (meter_at registry.now meter).owner) × (length result.now ≡ owner_size) }
-{
-    text_at(registry, owners[meter], OWNER_SIZE)
-}
+    // Its owner's DUNS number, padded.
+    pub fn owner_of(&self, meter: usize) -> &'a [u8]
+        requires { meter < length (meters_of self.now) }
+        ensures { (result.now ≡ (meter_at self.now meter).owner) × (length result.now ≡ owner_size) }
+    {
+        text_at(self.registry, self.places[meter].owner, OWNER_SIZE)
+    }
 
-// The sum of a meter's flags.
-pub fn flags(registry: &[u8], meters: &[usize], count: usize, meter: usize) -> u8
-    requires places { Places registry.now MeterAt meters.now count }
-    requires meter_lt_count { meter < count }
-    ensures { result ≡ (meter_at registry.now meter).flags }
-{
-    let place = meters[meter];
-    registry[place + METER_SIZE]
-}
+    // The sum of a meter's flags.
+    pub fn flags(&self, meter: usize) -> u8
+        requires { meter < length (meters_of self.now) }
+        ensures { result ≡ (meter_at self.now meter).flags }
+    {
+        self.registry[self.places[meter].meter + METER_SIZE]
+    }
 
-// Whether a meter belongs to this owner, padded.
-pub fn is_owned(registry: &[u8], owners: &[usize], count: usize, meter: usize, owner: &[u8]) -> bool
-    requires places { Places registry.now OwnerAt owners.now count }
-    requires meter_lt_count { meter < count }
-    requires owner_len { length owner.now ≡ owner_size }
-    ensures { result ≡ equals (meter_at registry.now meter).owner owner.now }
-{
-    same(owner_of(registry, owners, count, meter), owner)
+    // Whether a meter belongs to this owner, padded.
+    pub fn is_owned(&self, meter: usize, owner: &[u8]) -> bool
+        requires within { meter < length (meters_of self.now) }
+        requires sized { length owner.now ≡ owner_size }
+        ensures { result ≡ equals (meter_at self.now meter).owner owner.now }
+    {
+        same(self.owner_of(meter), owner)
+    }
 }

@@ -4,12 +4,12 @@ use mathlib.Core.Path.{◌≡◌, refl, sym}
 use mathlib.Core.Bool.{Bool, true, false}
 use Prim.Native.Nat.{ℕ}
 use native.Mathlib.Omega.{arith}
-use Rattle.std.specs.Prelude.{Result, Ok, Err, IsErrAnd}
+use Rattle.std.specs.Prelude.{Result, Err, IsErrAnd}
 use Rattle.report.specs.declared.verdict.Verdict.{Verdict}
 use Rattle.report.specs.declared.refusal.Refusal.{Refusal}
 use Rattle.report.specs.Verdict.{verdict_number}
 use Rattle.report.specs.Refusal.{refusal_number}
-use Rattle.report.specs.Outcome.{Outcome, passed, refused, require, says, answers, ◌>>=◌, ◌>>◌}
+use Rattle.report.specs.Outcome.{Outcome, passed, refused, require, numbered, says, answers, ◌>>=◌, ◌>>◌}
 use Rattle.std.proofs.lemmas.Result.{err_from_is_err_and}
 
 refused-apart : {A : Type 0} (v : ℕ) (a : A) → ◌≡◌ {A = Outcome A} (refused v) (passed a) → ⊥
@@ -44,12 +44,22 @@ test-refused true v n e = absurd (refused-apart {A = Unit {0}} n tt e)
 test-refused false v n e = (refl, cc)
 
 -- ---- THE EXIT OF A `?`: the error goes on as it is
-pub says-exit : {A : Type 0} (r : Result A Verdict) (v : Verdict) → IsErrAnd r (λ e. e ≡ v) → says r ≡ refused (verdict_number v)
-says-exit r v h = let p = err_from_is_err_and r h in rw (p.1, p.2)
+pub is-error : {A E : Type 0} (r : Result A E) (e : E) → IsErrAnd r (λ x. x ≡ e) → r ≡ Err e
+is-error r e h = let p = err_from_is_err_and r h in rw (p.1, p.2)
 
--- the same where the value would be looked at
+module _ {A E : Type 0} (number : E → ℕ) (r : Result A E) (e : E) (h : IsErrAnd r (λ x. x ≡ e)) where
+  pub exit : numbered number r ≡ refused (number e)
+  exit = rw (is-error r e h)
+
+  -- where the value would be looked at
+  pub next-exit : {B : Type 0} (next : A → Outcome B) → (numbered number r >>= next) ≡ refused (number e)
+  next-exit next = rw exit
+
+pub says-exit : {A : Type 0} (r : Result A Verdict) (v : Verdict) → IsErrAnd r (λ e. e ≡ v) → says r ≡ refused (verdict_number v)
+says-exit r v h = exit verdict_number r v h
+
 pub bind-exit : {A B : Type 0} (r : Result A Verdict) (v : Verdict) (next : A → Outcome B) → IsErrAnd r (λ e. e ≡ v) → (says r >>= next) ≡ refused (verdict_number v)
-bind-exit r v next h = rw (says-exit r v h)
+bind-exit r v next h = next-exit verdict_number r v h next
 
 pub answers-exit : {A : Type 0} (r : Result A Refusal) (f : Refusal) → IsErrAnd r (λ e. e ≡ f) → answers r ≡ refused (refusal_number f)
-answers-exit r f h = let p = err_from_is_err_and r h in rw (p.1, p.2)
+answers-exit r f h = exit refusal_number r f h

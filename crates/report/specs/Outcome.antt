@@ -5,6 +5,7 @@ use Rattle.report.specs.Refusal.{done, refusal_number}
 use Rattle.report.specs.Verdict.{verdict_number}
 use Rattle.report.specs.declared.refusal.Refusal.{Refusal}
 use Rattle.report.specs.declared.verdict.Verdict.{Verdict}
+use Rattle.report.specs.declared.verdict.Fault.{Fault}
 
 pub data Outcome (A : Type 0) : Type 0 where
   passed : A → Outcome A
@@ -31,12 +32,19 @@ abbrev pub number_of : {A : Type 0} → Outcome A → ℕ
 number_of (passed a) = done
 number_of (refused number) = number
 
--- what a reader answers, said of the row: its value, or the number of its verdict
-abbrev pub says : {A : Type 0} → Result A Verdict → Outcome A
-says (Ok a) = passed a
-says (Err v) = refused (verdict_number v)
+-- what code answers: its value, or its error's number
+abbrev pub numbered : {A E : Type 0} → (E → ℕ) → Result A E → Outcome A
+numbered number (Ok a) = passed a
+numbered number (Err e) = refused (number e)
 
--- what a call answers: its value, or the number of its refusal
+-- what a reader says of its row
+abbrev pub says : {A : Type 0} → Result A Verdict → Outcome A
+says r = numbered verdict_number r
+
+-- a verdict on a record whose meter is not known
+abbrev pub fault_of : Verdict → Fault
+fault_of v = record { verdict = v; meter = 0 }
+
+-- what a call answers
 abbrev pub answers : {A : Type 0} → Result A Refusal → Outcome A
-answers (Ok a) = passed a
-answers (Err r) = refused (refusal_number r)
+answers r = numbered refusal_number r

@@ -2,9 +2,12 @@
 //
 // A report is a lent run of entries, or of words, five an entry (`words`): `put_entry` puts an entry behind those that are there, `entry_at` reads one.
 //
-// For whoever changes it: a new verdict or refusal gets a name in specs/Verdict.antt or specs/Refusal.antt and a constant in `verdict` or `refusal`; nobody
+// For whoever changes it: a new verdict or refusal gets a name in specs/Verdict.antt or specs/Refusal.antt and a variant in `verdict` or `refusal`; nobody
 // else writes their numbers.
 #![tactic(auto)]
+
+ghost use Rattle.std.specs.Prelude.{◌≡◌, ℕ};
+ghost use Rattle.report.specs.Outcome.{numbered, require as required};
 
 pub mod refusal;
 pub mod verdict;
@@ -18,4 +21,16 @@ pub struct Entry {
     pub at: u32,
     pub meter: u32,
     pub day: u32,
+}
+
+// What refuses, a verdict or a refusal: it has a number of document 01's.
+pub trait Numbered: Drop {
+    ghost number: { Self → ℕ };
+}
+
+// Refused unless the test holds.
+pub fn require<E: Numbered>(holds: bool, error: E) -> Result<(), E>
+    ensures { numbered E.number result ≡ required holds (E.number error) }
+{
+    if holds { Ok(()) } else { Err(error) }
 }

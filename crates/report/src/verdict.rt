@@ -1,7 +1,9 @@
 // The verdicts that refuse a record: document 01's names, with its numbers (specs/Verdict.antt).
 ghost use Rattle.std.specs.Prelude.{◌≡◌};
 ghost use Rattle.report.specs.Verdict.{verdict_number};
-ghost use Rattle.report.specs.Outcome.{says, require as required};
+ghost use Rattle.report.specs.Outcome.{fault_of};
+
+use crate::Numbered;
 
 #[derive(Clone, Copy, Debug, PartialEq, Eq, Hash)]
 pub enum Verdict {
@@ -29,6 +31,10 @@ pub enum Verdict {
     OutsideWindow = 35,
 }
 
+impl Numbered for Verdict {
+    ghost number = { verdict_number };
+}
+
 impl From<Verdict> for u32 {
     ghost from_gives = { λ v n. n ≡ verdict_number v };
 
@@ -37,31 +43,20 @@ impl From<Verdict> for u32 {
     }
 }
 
-// Refused unless the test holds.
-pub fn require(holds: bool, verdict: Verdict) -> Result<(), Verdict>
-    ensures { says result ≡ required holds (verdict_number verdict) }
-{
-    if holds { Ok(()) } else { Err(verdict) }
+// Why a record is refused: the verdict, and the meter as the report numbers it, from 1; 0 where it is unknown.
+#[derive(Clone, Copy, Debug, PartialEq, Eq)]
+pub struct Fault {
+    pub verdict: Verdict,
+    pub meter: u32,
+}
+
+impl From<Verdict> for Fault {
+    ghost from_gives = { λ v f. f ≡ fault_of v };
+
+    fn from(verdict: Verdict) -> Fault {
+        Fault { verdict, meter: 0 }
+    }
 }
 
 // The number in the place of a verdict in the entry of a record that was loaded.
 pub const LOADED: u32 = 0;
-
-// The numbers, where a verdict is written into an entry.
-pub const STRAY: u32 = 10;
-
-pub const SHORT: u32 = 12;
-
-pub const SURPLUS: u32 = 22;
-
-pub const UNKNOWN_METER: u32 = 30;
-
-pub const NOT_OWNER: u32 = 31;
-
-pub const READ_BY_ERCOT: u32 = 32;
-
-pub const NO_INTERVAL_DATA: u32 = 33;
-
-pub const NOT_IDR: u32 = 34;
-
-pub const OUTSIDE_WINDOW: u32 = 35;

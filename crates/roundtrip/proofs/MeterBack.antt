@@ -2,6 +2,7 @@
 -- Assumes nothing.
 use mathlib.Core.Path.{◌≡◌, refl}
 use mathlib.Core.Bool.{true}
+use Rattle.std.specs.Prelude.{Some}
 use Prim.Native.Nat.{ℕ, ◌+◌, ◌-◌, ◌<◌, ◌≤◌}
 use native.Mathlib.Omega.{arith}
 use borrow.Author.Tests.{le-leb, lt-ltb}
@@ -16,12 +17,10 @@ use Rattle.padded.proofs.Unpad.{pad-unpad}
 use Rattle.registry.specs.Entry.{owner_size}
 use Rattle.registry.specs.Registry.{is_registry, meters_of, window_is}
 use Rattle.registry.specs.Index.{meter_at, find_meter}
-use Rattle.registry.specs.declared.Found.TheVariants.{At}
 use Rattle.registry.specs.declared.entry.Window.{Window}
 use Rattle.registry.proofs.Halves.{found-only}
 use Rattle.registry.proofs.Laws.{meter-formed, sound-window}
-use Rattle.checks.specs.Check.{has_flag, in_window, flag_checks, day_in, meter_checks, judge}
-use Rattle.checks.specs.declared.Judgement.TheVariants.{Passed}
+use Rattle.checks.specs.Check.{Passed, has_flag, in_window, flag_checks, day_in, meter_checks, judge}
 use Rattle.cells.specs.Address.{meter_count, day_count}
 use Rattle.roundtrip.specs.RoundTrip.{loading_flags}
 
@@ -45,7 +44,7 @@ flags-right = refl
 
 module _ (reg : Bytes) (m d : ℕ) (sound : is_registry reg ≡ true) (known : m < meter_count reg) (inside : d < day_count reg)
     (loads : (meter_at reg m).flags ≡ loading_flags) where
-  found : find_meter (pad esi_id_size (unpad (meter_at reg m).id)) (meters_of reg) ≡ At m
+  found : find_meter (pad esi_id_size (unpad (meter_at reg m).id)) (meters_of reg) ≡ Some m
   found =
       rw (pad-unpad esi_id_size (meter_at reg m).id (meter-formed reg m known).id-size)
       (found-only reg (meter_at reg m).id m known (equals_refl (meter_at reg m).id))

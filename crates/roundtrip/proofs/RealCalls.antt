@@ -10,12 +10,13 @@ use borrow.Fn.World
 use borrow.Fn.Claims.{AllOf}
 use denote.Triple.Clauses
 use lib.ListN.{take}
+use Rattle.std.specs.Prelude.{Ok}
 use Rattle.text.specs.Byte.{Bytes}
-use Rattle.report.specs.Outcome.{passed}
+use Rattle.report.specs.Outcome.{passed, answers}
 use Rattle.registry.specs.Index.{meter_at}
 use Rattle.cell.specs.Layout.{Words}
-use Rattle.report.specs.Refusal.{done}
 use Rattle.cells.specs.Sound.{sound_cell}
+use Rattle.cells.specs.declared.Address.{Address}
 use Rattle.plain.specs.Claim.{OnlyFinish, taken_by}
 use Rattle.loader.proofs.Demand3.{FreshCall, Begun, RealCall, told_of, Linked, fresh-chained}
 use Rattle.writer.proofs.Done.{Done, write_done}
@@ -46,42 +47,38 @@ registry_in k = k.args.0.now
 abbrev pub table_in : WriteCall → Words
 table_in k = k.args.1.0.now
 
-abbrev pub meter_in : WriteCall → ℕ
-meter_in k = k.args.1.1.0
-
-abbrev pub channel_in : WriteCall → ℕ
-channel_in k = k.args.1.1.1.0
-
-abbrev pub day_in : WriteCall → ℕ
-day_in k = k.args.1.1.1.1.0
-
-abbrev pub output_in : WriteCall → Bytes
-output_in k = k.args.1.1.1.1.1.1.0.now
-
-abbrev pub output_out : WriteCall → Bytes
-output_out k = k.exit.1.1.1.1.1.1.0.now
+abbrev pub address_in : WriteCall → Address
+address_in k = k.args.1.1.0
 
 abbrev pub descriptor_in : WriteCall → Bytes
-descriptor_in k = k.args.1.1.1.1.1.0.now
+descriptor_in k = k.args.1.1.1.0.now
+
+abbrev pub output_in : WriteCall → Bytes
+output_in k = k.args.1.1.1.1.0.now
+
+abbrev pub output_out : WriteCall → Bytes
+output_out k = k.exit.1.1.1.1.0.now
 
 -- for every call of write that was done, of a meter whose records load, and every list of calls that takes the bytes that it put out
-module _ (k : WriteCall) (met : WriteMet k) (zero : k.result.number ≡ done) (fits : Fits (table_in k))
-    (loads : (meter_at (registry_in k) (meter_in k)).flags ≡ loading_flags) (cleared : Words) (none : Cleared cleared) (b : FreshCall) (begun : Begun b)
-    (cs : List RealCall) (linked : Linked (registry_in k) b.result cleared cs) (only : OnlyFinish (map told_of cs))
-    (taken : taken_by (map told_of cs) ≡ take k.result.length (output_out k)) where
-  put : Done (registry_in k) (table_in k) (meter_in k) (channel_in k) (day_in k) (descriptor_in k) (output_in k) (output_out k) k.result.length
+module _ (k : WriteCall) (n : ℕ) (met : WriteMet k) (done : k.result ≡ Ok n) (fits : Fits (table_in k))
+    (loads : (meter_at (registry_in k) (address_in k).meter).flags ≡ loading_flags) (cleared : Words) (none : Cleared cleared)
+    (b : FreshCall) (begun : Begun b) (cs : List RealCall) (linked : Linked (registry_in k) b.result cleared cs) (only : OnlyFinish (map told_of cs))
+    (taken : taken_by (map told_of cs) ≡ take n (output_out k)) where
+  abbrev at : Address
+  at = address_in k
+
+  put : Done (registry_in k) (table_in k) at.meter at.channel at.day (descriptor_in k) (output_in k) (output_out k) n
   put =
-      rw (ap (λ r. r.length) met.0)
-      (write_done (registry_in k) (table_in k) (meter_in k) (channel_in k) (day_in k) (descriptor_in k) (output_in k) (output_out k)
-      (sym (ap (λ r. r.number) met.0) ∙ zero) met.1)
+      write_done (registry_in k) (table_in k) at.meter at.channel at.day (descriptor_in k) (output_in k) (output_out k) n
+      (ap answers (sym done) ∙ met.0) met.1
 
   -- the read that it was written from
-  pub cell-words : (w : Words) × (sound_cell (registry_in k) (table_in k) (meter_in k) (channel_in k) (day_in k) ≡ passed w)
+  pub cell-words : (w : Words) × (sound_cell (registry_in k) (table_in k) at.meter at.channel at.day ≡ passed w)
   cell-words = (put.words, put.cell)
 
-  pub written_reads_back : ReadsBack (registry_in k) (meter_in k) (channel_in k) (day_in k) cell-words.0 cleared (map told_of cs)
+  pub written_reads_back : ReadsBack (registry_in k) at.meter at.channel at.day cell-words.0 cleared (map told_of cs)
   unfolding cell-words
   written_reads_back =
-      round_trip (registry_in k) (table_in k) (meter_in k) (channel_in k) (day_in k) (descriptor_in k) put.words put.text
+      round_trip (registry_in k) (table_in k) at.meter at.channel at.day (descriptor_in k) put.words put.text
       (record { fits = fits; cell = put.cell; written = put.written; loads = loads }) cleared none (map told_of cs)
       (fresh-chained (registry_in k) cleared b begun cs linked) only (taken ∙ put.put)

@@ -32,8 +32,7 @@ use Rattle.cell.specs.Read.{interval_in, stamp_in}
 use Rattle.reads.specs.Sound.{is_real_stamp, is_value, max_value, values_of, is_sound}
 use Rattle.reads.proofs.SoundParts.{SoundParts, sound-parts}
 use Rattle.cells.proofs.Found.{day-few}
-use Rattle.checks.specs.Check.{judge}
-use Rattle.checks.specs.declared.Judgement.TheVariants.{Passed}
+use Rattle.checks.specs.Check.{Passed, judge}
 use Rattle.rowtext.specs.Value.{value_end}
 use Rattle.rowtext.specs.Text.{line_one, line_two, line_three, line_four, line_thirty}
 use Rattle.writer.specs.Record.{detail_line, detail_lines, record_lines, record_text}

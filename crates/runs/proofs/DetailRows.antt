@@ -9,18 +9,15 @@ use Prim.Native.Nat.{ℕ, zero, suc, ◌+◌, ◌-◌, ◌*◌, ◌<◌, ◌≤�
 use native.Mathlib.Numerals.{add-one}
 use native.Mathlib.Omega.{arith}
 use lib.Dec.{eqb, ltb}
-use lib.ListN.{length, take, drop, replicate, length-drop}
+use lib.ListN.{length, take, drop, length-drop}
 use lib.Seq.{get_or-drop}
 use borrow.Author.Tests.{eqb-true, ne_eqb, lt-ltb, le-ltb}
 use Rattle.std.proofs.Common.{Some, None}
 use Rattle.text.specs.Byte.{Bytes, starts_with}
 use Rattle.lines.specs.Line.{ended_line, opener_bytes, detail_bytes, drop_cr, kind_of}
-use Rattle.lines.specs.End.{LineAt}
 use Rattle.lines.specs.declared.line.Kind.TheVariants.{Opener, Detail, Other}
 use Rattle.details.specs.Detail.{per_row}
 use Rattle.details.specs.declared.detail.Interval.{Interval}
-use Rattle.registry.specs.Entry.{owner_size}
-use Rattle.cell.specs.Layout.{Words, width}
 use Rattle.cell.specs.Read.{with_intervals}
 use Rattle.plain.specs.Rows.{Rows, goes_on, header_rows, max_details, with_row, checked, after_detail, detail_row, next_row, rules_of}
 use Rattle.plain.specs.Loader.{takes_rows, settle, step_kind, step_line}
@@ -28,11 +25,12 @@ use Rattle.plain.specs.Call.{byte_limit}
 use Rattle.plain.proofs.Seam.{starts_split}
 use Rattle.direct.specs.Direct.{DetailLine}
 use Rattle.records.specs.declared.Progress.{Progress}
+use Rattle.records.specs.declared.Parts.{Parts}
 use Rattle.records.specs.Answer.{rows_of, Few}
 use Rattle.records.proofs.Steps.{due_detail}
 use Rattle.units.specs.Answer.{judged_if}
 use Rattle.runs.specs.declared.rows.Taken.{Taken}
-use Rattle.runs.specs.Run.{with_read, Took, DetailTook, DetailTaken, rows_to, RowsRan, DetailsRan}
+use Rattle.runs.specs.Run.{with_read, Took, DetailTook, DetailTaken, rows_to, RowsRan}
 use Rattle.runs.proofs.LineMore.{empty-step, rows-begin, rows_more}
 
 -- ---- ONE LINE
@@ -59,7 +57,7 @@ detail_body s h =
     rw t.1 (detail_ended t.0)
 
 -- within the piece
-pub direct_within : (k : ℕ) (piece : Bytes) (at n : ℕ) (vs : List Interval) → DetailLine k (drop at piece) vs n → at + n < length piece
+direct_within : (k : ℕ) (piece : Bytes) (at n : ℕ) (vs : List Interval) → DetailLine k (drop at piece) vs n → at + n < length piece
 direct_within k piece at n vs d = omega (arith, d.within, length-drop at piece)
 
 module _ (reg s : Bytes) (k n : ℕ) (vs : List Interval) (d : DetailLine k s vs n) (rows : Rows) (e : header_rows ≤ rows.behind_one)
@@ -69,7 +67,7 @@ module _ (reg s : Bytes) (k n : ℕ) (vs : List Interval) (d : DetailLine k s vs
   unfolding detail_row
   direct_row = rw (due_detail reg rows (ended_line (take n s)) e, at-k, d.row, lt-ltb k max_details small)
 
-  pub direct_step : (first m : ℕ)
+  direct_step : (first m : ℕ)
       → step_line (rules_of reg) m (ended_line (take n s)) (takes_rows first rows)
       ≡ settle first m (after_detail reg k (with_row rows (with_intervals rows.words (k * per_row) vs) rows.sender))
   unfolding step_line step_kind rules_of
@@ -77,31 +75,16 @@ module _ (reg s : Bytes) (k n : ℕ) (vs : List Interval) (d : DetailLine k s vs
 
 -- ---- THE LINE AT A PLACE
 
-module _ (k : ℕ) (piece : Bytes) (at : ℕ) (words : Words) where
-  pub detail_put : (vs : List Interval) (n : ℕ) (words' : Words) → DetailLine k (drop at piece) vs n → words' ≡ with_intervals words (k * per_row) vs
-      → length words' ≡ width → DetailTaken k piece at words (Some (record { size = n + 1; rows = 1 })) words'
-  detail_put vs n words' d e lw =
-      let z : n + 1 - 1 ≡ n = omega arith in
-      record {
-        words_sized = lw;
-        taken =
-            record {
-              few = omega arith;
-              gap = λ z. absurd (omega (arith, z));
-              row = λ one. record { some = omega arith; intervals = vs; line = rw z d; put = e };
-            };
-      }
-
 -- the checks follow the last row, and a further one is due behind any other
 judged-row : (b : Bool) (reg : Bytes) (first n : ℕ) (rows : Rows) → settle first n (cond b (checked reg rows) (goes_on rows)) ≡ judged_if b reg n (takes_rows first rows)
 unfolding settle
 judged-row true reg first n rows = refl
 judged-row false reg first n rows = refl
 
-module _ (k : ℕ) (piece : Bytes) (at : ℕ) (words : Words) (p : Progress) (small : k < max_details) (more : k < p.due) (is : p.read ≡ header_rows + k)
-    (t : Taken) (words' : Words) (D : DetailTook k piece at words t words') (sender : Bytes) where
+module _ (k : ℕ) (piece : Bytes) (at : ℕ) (before : Parts) (p : Progress) (small : k < max_details) (more : k < p.due) (is : p.read ≡ header_rows + k)
+    (t : Taken) (after : Parts) (D : DetailTook k piece at before t after) where
   abbrev TakesIt : Type 0
-  TakesIt = Took (eqb (k + t.rows) p.due) p piece at sender words t sender words'
+  TakesIt = Took (eqb (k + t.rows) p.due) p piece at before t after
 
   took-gap : t.rows ≡ 0 → TakesIt
   took-gap z =
@@ -110,8 +93,8 @@ module _ (k : ℕ) (piece : Bytes) (at : ℕ) (words : Words) (p : Progress) (sm
       let j : k + 0 ≡ k = omega arith in
       record {
         line = h.0.line;
-        step = λ reg id first m.
-            empty-step (rules_of reg) piece at t.size h.0 m (takes_rows first (rows_of p id sender words))
+        step = λ reg first m.
+            empty-step (rules_of reg) piece at t.size h.0 m (takes_rows first (rows_of p before))
             ∙ rw (z, n, j, h.1, ne_eqb k p.due (λ e. omega arith));
       }
 
@@ -129,13 +112,13 @@ module _ (k : ℕ) (piece : Bytes) (at : ℕ) (words : Words) (p : Progress) (sm
               ends = sym (get_or-drop at piece size 0) ∙ h.line.ends;
               clean = rw c h.line.clean;
             };
-        step = λ reg id first m.
+        step = λ reg first m.
             rw (c, z, add-one k, add-one p.read)
-            (direct_step reg (drop at piece) k size h.intervals h.line (rows_of p id sender words) (omega arith) (omega arith) small first m
-            ∙ unfold with_row after_detail in rw (← h.put) (judged-row (eqb (suc k) p.due) reg first m _));
+            (direct_step reg (drop at piece) k size h.intervals h.line (rows_of p before) (omega arith) (omega arith) small first m
+            ∙ unfold with_row after_detail in rw h.put (judged-row (eqb (suc k) p.due) reg first m _));
       }
 
-  pub detail_took : TakesIt
+  detail_took : TakesIt
   detail_took = ⊎_elim took-gap took-row (zero_or_one t.rows D.few)
     where
       zero_or_one : (n : ℕ) → n ≤ 1 → (n ≡ 0) ⊎ (n ≡ 1)
@@ -167,41 +150,30 @@ not_all from k due more = rw (ne_eqb k due (λ e. omega arith)) (go (ltb from k)
     go true = refl
     go false = refl
 
--- a Sender of the right length, whichever
-abbrev any_sender : Bytes
-any_sender = replicate owner_size 0
+module _ (p : Progress) (lines : ℕ) (piece : Bytes) (at : ℕ) (before : Parts) (from : ℕ) where
+  abbrev pub DetailsTo : Parts → ℕ → ℕ → ℕ → Type 0
+  DetailsTo parts k n e = RowsRan p lines piece at before (rows_to p (header_rows + k) n e (all_in p.due from k)) parts
 
-module _ (p : Progress) (lines : ℕ) (piece : Bytes) (at : ℕ) (words₀ : Words) (from : ℕ) where
-  abbrev pub DetailsTo : Words → ℕ → ℕ → ℕ → Type 0
-  DetailsTo words k n e = DetailsRan p lines piece at words₀ (rows_to p (header_rows + k) n e (all_in p.due from k)) words
-
-  pub details_begin : (words : Words) → words ≡ words₀ → Few p → from ≡ p.read - header_rows → header_rows ≤ p.read → at ≤ length piece
-      → lines + (length piece - at) ≤ byte_limit → length words ≡ width → DetailsTo words from lines at
-  details_begin words e few is some within fits lw sender ls =
+  pub details_begin : Few p → from ≡ p.read - header_rows → header_rows ≤ p.read → at ≤ length piece → lines + (length piece - at) ≤ byte_limit
+      → DetailsTo before from lines at
+  details_begin few is some within fits =
       let r : header_rows + from ≡ p.read = omega arith in
-      rw (r, le-ltb from from (omega arith), ← e) (rows-begin p lines piece at sender words few within fits ls lw)
+      rw (r, le-ltb from from (omega arith)) (rows-begin p lines piece at before few within fits)
 
-  module _ (words : Words) (k n e : ℕ) (inv : DetailsTo words k n e) where
-    pub details_fit : n + (length piece - e) ≤ byte_limit
-    details_fit = (inv any_sender refl).fits
+  module _ (parts : Parts) (k n e : ℕ) (inv : DetailsTo parts k n e) (more : k < p.due) (after : Parts) where
+    inv_on : RowsRan p lines piece at before (rows_to p (header_rows + k) n e false) parts
+    inv_on = rw (not_all from k p.due more) at inv
 
-    module _ (more : k < p.due) (words' : Words) where
-      inv_on : (sender : Bytes) → length sender ≡ owner_size → RowsRan p lines piece at sender words₀ (rows_to p (header_rows + k) n e false) sender words
-      inv_on sender ls = rw (not_all from k p.due more) at (inv sender ls)
+    -- one for the plain way
+    pub details_stop : DetailTaken k piece e parts None after → RowsRan p lines piece at before (rows_to p (header_rows + k) n e false) after
+    details_stop D = rw D inv_on
 
-      -- one for the plain way
-      pub details_stop : DetailTaken k piece e words None words' → DetailsRan p lines piece at words₀ (rows_to p (header_rows + k) n e false) words'
-      details_stop D sender ls = rw D.taken (inv_on sender ls)
+    module _ (t : Taken) (D : DetailTaken k piece e parts (Some t) after) (small : k < max_details) where
+      took : Took (eqb (k + t.rows) p.due) (with_read p (header_rows + k)) piece e parts t after
+      took = detail_took k piece e parts (with_read p (header_rows + k)) small more refl t after D
 
-      module _ (t : Taken) (D : DetailTaken k piece e words (Some t) words') (small : k < max_details) where
-        took : (sender : Bytes) → Took (eqb (k + t.rows) p.due) (with_read p (header_rows + k)) piece e sender words t sender words'
-        took sender = detail_took k piece e words (with_read p (header_rows + k)) small more refl t words' D.taken sender
-
-        pub details_line : LineAt piece e t.size
-        details_line = (took any_sender).line
-
-        pub details_again : from ≤ k → DetailsTo words' (k + t.rows) (n + 1) (e + t.size)
-        details_again h sender ls =
-            let c : header_rows + (k + t.rows) ≡ header_rows + k + t.rows = omega arith in
-            rw (c, ← all_same from k p.due t.rows h more)
-            (rows_more p lines piece at sender words₀ (header_rows + k) n e sender words (inv_on sender ls) (eqb (k + t.rows) p.due) t sender words' (omega (arith, D.taken.few)) ls D.words_sized (took sender))
+      pub details_again : from ≤ k → DetailsTo after (k + t.rows) (n + 1) (e + t.size)
+      details_again h =
+          let c : header_rows + (k + t.rows) ≡ header_rows + k + t.rows = omega arith in
+          rw (c, ← all_same from k p.due t.rows h more)
+          (rows_more p lines piece at before (header_rows + k) n e parts inv_on (eqb (k + t.rows) p.due) t after (omega (arith, D.few)) took)

@@ -8,32 +8,30 @@ use native.Mathlib.Numerals.{add-one}
 use native.Mathlib.Omega.{arith}
 use lib.ListN.{length, take, drop, take-append-drop}
 use Rattle.std.proofs.Common.{Some, None}
+use Rattle.std.specs.Prelude.{Result, Ok, Err, OnErr, is_ok}
 use Rattle.text.specs.Byte.{Bytes, ascii, equals, starts_with}
 use Rattle.text.specs.Field.{cut, first_field}
 use Rattle.text.proofs.Truth.{apart}
 use Rattle.text.proofs.Equal.{equals_path}
 use Rattle.text.proofs.Comma.{field_take, cut-some, cut_at}
-use Rattle.lines.specs.Line.{Line, is_long, ended_line, ends_with_cr, drop_cr, kind_of}
+use Rattle.lines.specs.Line.{Line, is_long, ended_line, kind_of}
 use Rattle.lines.specs.End.{between, LineEnd, EmptyAt}
 use Rattle.report.specs.Outcome.{Outcome, passed, refused, require, ◌>>=◌}
 use Rattle.lines.specs.Row.{fields_of, ◌!◌}
 use Rattle.report.specs.Verdict.{long, wrong_code}
-use Rattle.lines.specs.Answer.{line_of}
+use Rattle.report.specs.declared.verdict.Verdict.{Verdict}
 use Rattle.lines.specs.declared.line.Kind.TheVariants.{Other}
 use Rattle.report.proofs.Passing.{bind_passed, then_passed, require-passed}
+use Rattle.cell.specs.Layout.{Words}
 use Rattle.headers.specs.Two.{row_two}
 use Rattle.headers.specs.Three.{row_three}
 use Rattle.headers.specs.Four.{row_four}
 use Rattle.headers.specs.Thirty.{row_thirty}
-use Rattle.registry.specs.Entry.{owner_size}
-use Rattle.cell.specs.Layout.{Words, width}
 use Rattle.plain.specs.Rows.{Rows, Row, goes_on, header_rows, or_else, with_row, next_row, rules_of}
 use Rattle.plain.specs.Loader.{takes_rows, settle, step_kind, step_line}
 use Rattle.records.specs.declared.Progress.{Progress}
-use Rattle.records.specs.declared.Ready.{Ready}
-use Rattle.records.specs.declared.RowRead.{RowRead}
-use Rattle.records.specs.declared.RowRead.TheVariants.{Refused, GoesOn, Complete}
-use Rattle.records.specs.Answer.{rows_of, row_says, unless_on, one_more}
+use Rattle.records.specs.declared.Parts.{Parts}
+use Rattle.records.specs.Answer.{rows_of, header_says, one_more}
 use Rattle.records.proofs.Steps.{due-two, due-three, due-four, due-thirty}
 use Rattle.runs.specs.declared.rows.Taken.{Taken}
 use Rattle.runs.specs.Run.{taken_rows, with_read, HeaderRead, HeaderTaken, rows_to, RowsRan}
@@ -89,95 +87,69 @@ module _ (reg : Bytes) (rows : Rows) (l : Line) (rows' : Rows) (e : next_row reg
     where
       go : (n : ℕ) → rows.behind_one ≡ n → n < header_rows → Goes
       go zero q h =
-          let t = or_goes rows.day _ rows' (row_two l) (sym (due-two reg rows l q) ∙ e) in
+          let t = or_goes rows.day _ rows' (row_two l) (due-two reg rows l q ∙ e) in
           (row_other (ascii "00000002") (λ r. refl) 14 l _ t.0 t.1, with_row_lem rows rows' _ _ t.2)
       go (suc zero) q h =
-          let t = or_goes rows.day _ rows' (row_three l) (sym (due-three reg rows l q) ∙ e) in
+          let t = or_goes rows.day _ rows' (row_three l) (due-three reg rows l q ∙ e) in
           (row_other (ascii "00000003") (λ r. refl) 2 l _ t.0 t.1, with_row_lem rows rows' _ _ t.2)
       go (suc (suc zero)) q h =
-          let t = or_goes rows.day _ rows' (row_four l) (sym (due-four reg rows l q) ∙ e) in
+          let t = or_goes rows.day _ rows' (row_four l) (due-four reg rows l q ∙ e) in
           (row_other (ascii "00000004") (λ r. refl) 3 l _ t.0 t.1, with_row_lem rows rows' _ _ t.2)
       go (suc (suc (suc zero))) q h =
-          let t = or_goes rows.day _ rows' (row_thirty l) (sym (due-thirty reg rows l q) ∙ e) in
+          let t = or_goes rows.day _ rows' (row_thirty l) (due-thirty reg rows l q ∙ e) in
           (row_other (ascii "00000030") (λ r. refl) 6 l _ t.0 t.1, with_row_lem rows rows' _ _ t.2)
       go (suc (suc (suc (suc n)))) q h = absurd (omega (arith, h))
 
-module _ (p : Progress) (raw body : Bytes) (cr : Bool) (sender : Bytes) (words : Words) (sender' : Bytes) (words' : Words) (row : RowRead)
-    (few : p.read < header_rows) (ec : cr ≡ ends_with_cr raw) (eb : body ≡ drop_cr raw) (ls : length sender' ≡ owner_size) (lw : length words' ≡ width)
-    (says : (reg id : Bytes) → row_says row p.day id sender' words' ≡ next_row reg (rows_of p id sender words) (line_of body cr)) where
-  step-passed : (q : Progress) → row ≡ GoesOn q → (reg id : Bytes) (first n : ℕ)
-      → step_line (rules_of reg) n (ended_line raw) (takes_rows first (rows_of p id sender words))
-      ≡ record { unit = takes_rows first (rows_of (one_more p) id sender' words'); events = [] }
-  unfolding step_line step_kind rules_of ended_line settle with_row
-  step-passed q e reg id first n =
-      let goes : next_row reg (rows_of p id sender words) (line_of body cr) ≡ goes_on (rows_of q id sender' words') = sym (says reg id) ∙ rw e in
-      let g = header_goes reg (rows_of p id sender words) (line_of body cr) (rows_of q id sender' words') goes few in
-      rw (← ec, ← eb, g.0, goes, g.1)
+-- the answer of its reader, as that of its line
+module _ (p : Progress) (raw : Bytes) (l : Line) (before after : Parts) (few : p.read < header_rows) (is : l ≡ ended_line raw) where
+  step-passed : (q : Progress) → ((reg : Bytes) → goes_on (rows_of q after) ≡ next_row reg (rows_of p before) l) → (reg : Bytes) (first n : ℕ)
+      → step_line (rules_of reg) n (ended_line raw) (takes_rows first (rows_of p before))
+      ≡ record { unit = takes_rows first (rows_of (one_more p) after); events = [] }
+  unfolding step_line step_kind rules_of settle with_row
+  step-passed q says reg first n =
+      let goes : next_row reg (rows_of p before) l ≡ goes_on (rows_of q after) = sym (says reg) in
+      let g = header_goes reg (rows_of p before) l (rows_of q after) goes few in
+      let id : after.id ≡ before.id = ap (λ r. r.esi_id) g.1 in
+      rw (← is, g.0, goes, g.1, id)
 
-  pub header_passed : (q : Progress) → row ≡ GoesOn q → HeaderRead p raw true sender words sender' words'
-  header_passed q e =
-      record {
-        sender_sized = ls;
-        words_sized = lw;
-        passes = λ t reg id first n. step-passed q e reg id first n;
-        stays = λ f. absurd (apart (sym f));
-      }
-
-  module _ (kept : unless_on row ((sender' ≡ sender) × (words' ≡ words))) where
-    pub header_refused : (v m : ℕ) → row ≡ Refused v m → HeaderRead p raw false sender words sender' words'
-    unfolding unless_on
-    header_refused v m e = record { sender_sized = ls; words_sized = lw; passes = λ t. absurd (apart t); stays = λ f. rw e at kept }
-
-    pub header_complete : (r : Ready) → row ≡ Complete r → HeaderRead p raw false sender words sender' words'
-    unfolding unless_on
-    header_complete r e = record { sender_sized = ls; words_sized = lw; passes = λ t. absurd (apart t); stays = λ f. rw e at kept }
+  pub header_read : (row : Result Progress Verdict) → ((reg : Bytes) → header_says row p.day after ≡ next_row reg (rows_of p before) l)
+      → OnErr row (after ≡ before) → HeaderRead p raw (is_ok row) before after
+  header_read (Ok q) says kept = record { step = λ t reg first n. step-passed q says reg first n; stays = λ f. absurd (apart (sym f)) }
+  header_read (Err v) says kept = record { step = λ t. absurd (apart t); stays = λ f. kept }
 
 -- ---- THE LINE AT A PLACE
 
-module _ (p : Progress) (piece : Bytes) (at : ℕ) (sender : Bytes) (words : Words) (few : p.read < header_rows) where
-  pub header_gap : (size : ℕ) (t : Taken) → t ≡ taken_rows size 0 → EmptyAt piece at size → length sender ≡ owner_size → length words ≡ width
-      → HeaderTaken p piece at sender words (Some t) sender words
-  header_gap size t is h ls lw =
+module _ (p : Progress) (piece : Bytes) (at : ℕ) (before : Parts) where
+  pub header_gap : (size : ℕ) (t : Taken) → t ≡ taken_rows size 0 → EmptyAt piece at size → HeaderTaken p piece at before (Some t) before
+  header_gap size t is h =
       let z : p.read + 0 ≡ p.read = omega arith in
-      rw is
-      (record {
-        sender_sized = ls;
-        words_sized = lw;
-        taken = (
-          omega arith,
-          record {
-            line = h.line;
-            step = λ reg id first n. empty-step (rules_of reg) piece at size h n (takes_rows first (rows_of p id sender words)) ∙ rw z;
-          },
-        );
-      })
+      rw is (
+        omega arith,
+        record {
+          line = h.line;
+          step = λ reg first n. empty-step (rules_of reg) piece at size h n (takes_rows first (rows_of p before)) ∙ rw z;
+        },
+      )
 
-  pub header_took : (end : ℕ) → LineEnd piece at end → end < length piece → (r : Bool) (sender' : Bytes) (words' : Words)
-      → HeaderRead p (between at end piece) r sender words sender' words' → r ≡ true
-      → HeaderTaken p piece at sender words (Some (record { size = end - at + 1; rows = 1 })) sender' words'
-  header_took end E inside r sender' words' h t =
-      let e : at + (end - at + 1 - 1) ≡ end = omega (arith, E.none.behind) in
-      record {
-        sender_sized = h.sender_sized;
-        words_sized = h.words_sized;
-        taken = (
-          omega arith,
-          record {
-            line = line_at piece at end E inside;
-            step = λ reg id first n. rw (e, add-one p.read) (h.passes t reg id first n);
-          },
-        );
-      }
+  pub header_took : (end : ℕ) → LineEnd piece at end → end < length piece → (passes : Bool) (after : Parts)
+      → HeaderRead p (between at end piece) passes before after → passes ≡ true
+      → HeaderTaken p piece at before (Some (record { size = end - at + 1; rows = 1 })) after
+  header_took end E inside passes after h t =
+      let e : at + (end - at + 1 - 1) ≡ end = omega (arith, E.none.behind) in (
+        omega arith,
+        record {
+          line = line_at piece at end E inside;
+          step = λ reg first n. rw (e, add-one p.read) (h.step t reg first n);
+        },
+      )
 
 -- ---- HEADER ROWS
 
-module _ (p : Progress) (lines : ℕ) (piece : Bytes) (at : ℕ) (sender₀ : Bytes) (words₀ : Words) (k n e : ℕ) (sender : Bytes) (words : Words)
-    (inv : RowsRan p lines piece at sender₀ words₀ (rows_to p k n e false) sender words) (q : Progress) (is : q ≡ with_read p k) (sender' : Bytes)
-    (words' : Words) where
-  pub headers_stop : HeaderTaken q piece e sender words None sender' words' → RowsRan p lines piece at sender₀ words₀ (rows_to p k n e false) sender' words'
-  headers_stop h = rw (h.taken.0, h.taken.1) inv
+module _ (p : Progress) (lines : ℕ) (piece : Bytes) (at : ℕ) (before : Parts) (k n e : ℕ) (parts : Parts)
+    (inv : RowsRan p lines piece at before (rows_to p k n e false) parts) (q : Progress) (is : q ≡ with_read p k) (after : Parts) where
+  pub headers_stop : HeaderTaken q piece e parts None after → RowsRan p lines piece at before (rows_to p k n e false) after
+  headers_stop h = rw h inv
 
-  pub headers_again : (t : Taken) → HeaderTaken q piece e sender words (Some t) sender' words' → k < header_rows
-      → RowsRan p lines piece at sender₀ words₀ (rows_to p (k + t.rows) (n + 1) (e + t.size) false) sender' words'
-  headers_again t h few =
-      rows_more p lines piece at sender₀ words₀ k n e sender words inv false t sender' words' (omega (arith, h.taken.0)) h.sender_sized h.words_sized (rw is at h.taken.1)
+  pub headers_again : (t : Taken) → HeaderTaken q piece e parts (Some t) after → k < header_rows
+      → RowsRan p lines piece at before (rows_to p (k + t.rows) (n + 1) (e + t.size) false) after
+  headers_again t h few = rows_more p lines piece at before k n e parts inv false t after (omega (arith, h.0)) (rw is at h.1)

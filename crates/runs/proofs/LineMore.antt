@@ -11,14 +11,13 @@ use Rattle.text.specs.Byte.{Bytes}
 use Rattle.lines.specs.Line.{LF, kind_of, ended_line}
 use Rattle.lines.specs.End.{between, LineEnd, LineAt, EmptyAt}
 use Rattle.lines.proofs.Ends.{between-add, line-between}
-use Rattle.registry.specs.Entry.{owner_size}
-use Rattle.cell.specs.Layout.{Words, width}
 use Rattle.plain.specs.Rows.{Rules, header_rows, max_details, rules_of}
 use Rattle.plain.specs.Loader.{OpenUnit, takes_rows, Step, Scan, scan, step_kind, step_line, scan_to, scan_events}
 use Rattle.plain.specs.Call.{byte_limit}
 use Rattle.plain.proofs.LineScan.{line-scan-to, line-scan-events}
 use Rattle.plain.proofs.Pieces.{scan_to-append, scan_events-append}
 use Rattle.records.specs.declared.Progress.{Progress}
+use Rattle.records.specs.declared.Parts.{Parts}
 use Rattle.records.specs.Answer.{rows_of, Few}
 use Rattle.runs.specs.declared.rows.RowsRead.{RowsRead}
 use Rattle.runs.specs.declared.rows.Taken.{Taken}
@@ -62,76 +61,68 @@ module _ (R : Rules) (from : Scan) (piece : Bytes) (at e size : ℕ) (behind : a
 
 -- ---- ROWS
 
-pub rows-begin : (p : Progress) (lines : ℕ) (piece : Bytes) (at : ℕ) (sender : Bytes) (words : Words) → Few p → at ≤ length piece
-    → lines + (length piece - at) ≤ byte_limit → length sender ≡ owner_size → length words ≡ width
-    → RowsRan p lines piece at sender words (rows_to p p.read lines at false) sender words
+pub rows-begin : (p : Progress) (lines : ℕ) (piece : Bytes) (at : ℕ) (parts : Parts) → Few p → at ≤ length piece
+    → lines + (length piece - at) ≤ byte_limit → RowsRan p lines piece at parts (rows_to p p.read lines at false) parts
 unfolding scan_to scan_events
-rows-begin p lines piece at sender words few within fits ls lw =
+rows-begin p lines piece at parts few within fits =
     let z : at - at ≡ 0 = omega arith in
     record {
       behind = omega arith;
       within = within;
       few = few;
-      sender_sized = ls;
-      sized = lw;
       fits = fits;
-      reaches = λ reg id first. rw z;
-      tells = λ reg id first. rw z;
+      reaches = λ reg first. rw z;
+      tells = λ reg first. rw z;
     }
 
 -- a line more
-pub rows_more : (p : Progress) (lines : ℕ) (piece : Bytes) (at : ℕ) (sender₀ : Bytes) (words₀ : Words) (k n e : ℕ) (sender : Bytes) (words : Words)
-    → RowsRan p lines piece at sender₀ words₀ (rows_to p k n e false) sender words
-    → (all : Bool) (t : Taken) (sender' : Bytes) (words' : Words) → k + t.rows ≤ header_rows + max_details → length sender' ≡ owner_size → length words' ≡ width
-    → Took all (with_read p k) piece e sender words t sender' words'
-    → RowsRan p lines piece at sender₀ words₀ (rows_to p (k + t.rows) (n + 1) (e + t.size) all) sender' words'
-rows_more p lines piece at sender₀ words₀ k n e sender words inv all t sender' words' few ls lw took =
+pub rows_more : (p : Progress) (lines : ℕ) (piece : Bytes) (at : ℕ) (before : Parts) (k n e : ℕ) (parts : Parts)
+    → RowsRan p lines piece at before (rows_to p k n e false) parts
+    → (all : Bool) (t : Taken) (after : Parts) → k + t.rows ≤ header_rows + max_details → Took all (with_read p k) piece e parts t after
+    → RowsRan p lines piece at before (rows_to p (k + t.rows) (n + 1) (e + t.size) all) after
+rows_more p lines piece at before k n e parts inv all t after few took =
     record {
       behind = omega (arith, inv.behind);
       within = took.line.within;
       few = few;
-      sender_sized = ls;
-      sized = lw;
       fits = omega (arith, inv.fits, took.line.within, took.line.some);
-      reaches = λ reg id first.
+      reaches = λ reg first.
           rw (add-one n)
-          (more-to (rules_of reg) (from id first) piece at e t.size inv.behind took.line n (held id first) (inv.reaches reg id first) _ (took.step reg id first (suc n)));
-      tells = λ reg id first.
+          (more-to (rules_of reg) (from first) piece at e t.size inv.behind took.line n (held first) (inv.reaches reg first) _ (took.step reg first (suc n)));
+      tells = λ reg first.
           rw (add-one n)
-          (more-events (rules_of reg) (from id first) piece at e t.size inv.behind took.line n (held id first) (inv.reaches reg id first) _ (took.step reg id first (suc n)) (inv.tells reg id first));
+          (more-events (rules_of reg) (from first) piece at e t.size inv.behind took.line n (held first) (inv.reaches reg first) _ (took.step reg first (suc n)) (inv.tells reg first));
     }
   where
-    from : (id : Bytes) (first : ℕ) → Scan
-    from id first = scan [] lines (takes_rows first (rows_of p id sender₀ words₀))
+    from : (first : ℕ) → Scan
+    from first = scan [] lines (takes_rows first (rows_of p before))
 
-    held : (id : Bytes) (first : ℕ) → OpenUnit
-    held id first = takes_rows first (rows_of (with_read p k) id sender words)
+    held : (first : ℕ) → OpenUnit
+    held first = takes_rows first (rows_of (with_read p k) parts)
 
 -- rows, and then others behind them
-pub rows_then : (p : Progress) (lines : ℕ) (piece : Bytes) (at : ℕ) (sender : Bytes) (words : Words) (r : RowsRead) (sender₁ : Bytes) (words₁ : Words)
-    → RowsRan p lines piece at sender words r sender₁ words₁ → r.all ≡ false → (q : RowsRead) (sender₂ : Bytes) (words₂ : Words)
-    → RowsRan r.progress r.lines piece r.at sender₁ words₁ q sender₂ words₂ → RowsRan p lines piece at sender words q sender₂ words₂
-rows_then p lines piece at sender words r sender₁ words₁ a more q sender₂ words₂ b =
+pub rows_then : (p : Progress) (lines : ℕ) (piece : Bytes) (at : ℕ) (before : Parts) (r : RowsRead) (parts : Parts)
+    → RowsRan p lines piece at before r parts → r.all ≡ false → (q : RowsRead) (after : Parts)
+    → RowsRan r.progress r.lines piece r.at parts q after → RowsRan p lines piece at before q after
+rows_then p lines piece at before r parts a more q after b =
     record {
       behind = omega (arith, a.behind, b.behind);
       within = b.within;
       few = b.few;
-      sender_sized = b.sender_sized;
-      sized = b.sized;
       fits = b.fits;
-      reaches = λ reg id first. rw (part, scan_to-append (rules_of reg) (from id first) (between at r.at piece) (between r.at q.at piece), to reg id first) (b.reaches reg id first);
-      tells = λ reg id first.
-          rw (part, scan_events-append (rules_of reg) (from id first) (between at r.at piece) (between r.at q.at piece), to reg id first, none reg id first) (b.tells reg id first);
+      reaches = λ reg first. rw (part, scan_to-append (rules_of reg) (from first) (between at r.at piece) (between r.at q.at piece), to reg first) (b.reaches reg first);
+      tells = λ reg first.
+          rw (part, scan_events-append (rules_of reg) (from first) (between at r.at piece) (between r.at q.at piece), to reg first, none reg first) (b.tells reg first);
     }
   where
     part : between at q.at piece ≡ between at r.at piece ++ between r.at q.at piece
     part = between-add piece at r.at q.at a.behind b.behind
 
-    from : (id : Bytes) (first : ℕ) → Scan
-    from id first = scan [] lines (takes_rows first (rows_of p id sender words))
+    from : (first : ℕ) → Scan
+    from first = scan [] lines (takes_rows first (rows_of p before))
 
-    to : (reg id : Bytes) (first : ℕ) → scan_to (rules_of reg) (from id first) (between at r.at piece) ≡ scan [] r.lines (takes_rows first (rows_of r.progress id sender₁ words₁))
-    to reg id first = a.reaches reg id first ∙ rw more
+    to : (reg : Bytes) (first : ℕ) → scan_to (rules_of reg) (from first) (between at r.at piece) ≡ scan [] r.lines (takes_rows first (rows_of r.progress parts))
+    to reg first = a.reaches reg first ∙ rw more
 
-    none : (reg id : Bytes) (first : ℕ) → scan_events (rules_of reg) (from id first) (between at r.at piece) ≡ []
-    none reg id first = a.tells reg id first ∙ rw more
+    none : (reg : Bytes) (first : ℕ) → scan_events (rules_of reg) (from first) (between at r.at piece) ≡ []
+    none reg first = a.tells reg first ∙ rw more

@@ -10,14 +10,13 @@ use Rattle.lines.specs.declared.line.Kind.TheVariants.{Empty, Opener, Detail, Ot
 use Rattle.details.specs.Detail.{per_row}
 use Rattle.details.specs.declared.detail.Interval.{Interval}
 use Rattle.direct.specs.Direct.{DetailLine}
-use Rattle.registry.specs.Entry.{owner_size}
-use Rattle.cell.specs.Layout.{Words, width}
 use Rattle.cell.specs.Read.{with_intervals}
 use Rattle.plain.specs.Rows.{rules_of, max_details}
 use Rattle.plain.specs.Loader.{takes_rows, skips, scan, step_line, scan_to, scan_events}
 use Rattle.plain.specs.Call.{byte_limit}
 use Rattle.plain.specs.Promise.{details_in}
 use Rattle.records.specs.declared.Progress.{Progress}
+use Rattle.records.specs.declared.Parts.{Parts}
 use Rattle.records.specs.Answer.{rows_of, one_more, Few}
 use Rattle.units.specs.declared.Unit.{Unit as KeptUnit}
 use Rattle.units.specs.declared.Unit.TheVariants.{Takes, Skips}
@@ -36,70 +35,62 @@ taken_rows size rows = record { size = size; rows = rows }
 abbrev pub with_read : Progress → ℕ → Progress
 with_read p read = record { read = read; due = p.due; day = p.day; channel = p.channel }
 
--- a header row: one that passes is the step of its line, any other leaves the lent parts as they were
-pub record HeaderRead (p : Progress) (raw : Bytes) (r : Bool) (sender : Bytes) (words : Words) (sender' : Bytes) (words' : Words) : Type 0 where
-  pub sender_sized : length sender' ≡ owner_size
-  pub words_sized : length words' ≡ width
-  pub passes : r ≡ true → (reg id : Bytes) (first n : ℕ)
-      → step_line (rules_of reg) n (ended_line raw) (takes_rows first (rows_of p id sender words))
-      ≡ record { unit = takes_rows first (rows_of (one_more p) id sender' words'); events = [] }
-  pub stays : r ≡ false → (sender' ≡ sender) × (words' ≡ words)
+-- a header row: one that passes is the step of its line, any other leaves what is lent as it was
+pub record HeaderRead (p : Progress) (raw : Bytes) (passes : Bool) (before after : Parts) : Type 0 where
+  pub step : passes ≡ true → (reg : Bytes) (first n : ℕ)
+      → step_line (rules_of reg) n (ended_line raw) (takes_rows first (rows_of p before))
+      ≡ record { unit = takes_rows first (rows_of (one_more p) after); events = [] }
+  pub stays : passes ≡ false → after ≡ before
+
+-- the record with these intervals put
+abbrev pub with_detail : ℕ → List Interval → Parts → Parts
+with_detail k row r = record { id = r.id; sender = r.sender; words = with_intervals r.words (k * per_row) row }
 
 -- a detail row at the front of the bytes, which has so many with its LF, is read and its intervals are put
-pub record RowPut (k : ℕ) (s : Bytes) (words : Words) (size : ℕ) (words' : Words) : Type 0 where
+pub record RowPut (k : ℕ) (s : Bytes) (size : ℕ) (before after : Parts) : Type 0 where
   pub some : 0 < size
   pub intervals : List Interval
   pub line : DetailLine k s intervals (size - 1)
-  pub put : words' ≡ with_intervals words (k * per_row) intervals
+  pub put : after ≡ with_detail k intervals before
 
 -- the line at a place was taken: it is a row of the record, the day's last if `all` says so, or an empty line
-pub record Took (all : Bool) (p : Progress) (piece : Bytes) (at : ℕ) (sender : Bytes) (words : Words) (r : Taken) (sender' : Bytes) (words' : Words) : Type 0 where
-  pub line : LineAt piece at r.size
-  pub step : (reg id : Bytes) (first n : ℕ)
-      → step_line (rules_of reg) n (ended_line (between at (at + (r.size - 1)) piece)) (takes_rows first (rows_of p id sender words))
-      ≡ judged_if all reg n (takes_rows first (rows_of (with_read p (p.read + r.rows)) id sender' words'))
+pub record Took (all : Bool) (p : Progress) (piece : Bytes) (at : ℕ) (before : Parts) (t : Taken) (after : Parts) : Type 0 where
+  pub line : LineAt piece at t.size
+  pub step : (reg : Bytes) (first n : ℕ)
+      → step_line (rules_of reg) n (ended_line (between at (at + (t.size - 1)) piece)) (takes_rows first (rows_of p before))
+      ≡ judged_if all reg n (takes_rows first (rows_of (with_read p (p.read + t.rows)) after))
 
 -- a header row, or an empty line; or nothing
-pub record HeaderTaken (p : Progress) (piece : Bytes) (at : ℕ) (sender : Bytes) (words : Words) (r : Option Taken) (sender' : Bytes) (words' : Words) : Type 0 where
-  pub sender_sized : length sender' ≡ owner_size
-  pub words_sized : length words' ≡ width
-  pub taken : MatchOption r ((sender' ≡ sender) × (words' ≡ words)) (λ t. (t.rows ≤ 1) × Took false p piece at sender words t sender' words')
+abbrev pub HeaderTaken : Progress → Bytes → ℕ → Parts → Option Taken → Parts → Type 0
+HeaderTaken p piece at before r after = MatchOption r (after ≡ before) (λ t. (t.rows ≤ 1) × Took false p piece at before t after)
 
 -- a line that is no row is an empty one, and a line that is one is detail row k
-pub record DetailTook (k : ℕ) (piece : Bytes) (at : ℕ) (words : Words) (t : Taken) (words' : Words) : Type 0 where
+pub record DetailTook (k : ℕ) (piece : Bytes) (at : ℕ) (before : Parts) (t : Taken) (after : Parts) : Type 0 where
   pub few : t.rows ≤ 1
-  pub gap : t.rows ≡ 0 → EmptyAt piece at t.size × (words' ≡ words)
-  pub row : t.rows ≡ 1 → RowPut k (drop at piece) words t.size words'
+  pub gap : t.rows ≡ 0 → EmptyAt piece at t.size × (after ≡ before)
+  pub row : t.rows ≡ 1 → RowPut k (drop at piece) t.size before after
 
 -- detail row k, or an empty line; or nothing
-pub record DetailTaken (k : ℕ) (piece : Bytes) (at : ℕ) (words : Words) (r : Option Taken) (words' : Words) : Type 0 where
-  pub words_sized : length words' ≡ width
-  pub taken : MatchOption r (words' ≡ words) (λ t. DetailTook k piece at words t words')
+abbrev pub DetailTaken : ℕ → Bytes → ℕ → Parts → Option Taken → Parts → Type 0
+DetailTaken k piece at before r after = MatchOption r (after ≡ before) (λ t. DetailTook k piece at before t after)
 
 -- ---- LINES OF A RECORD
 
 abbrev pub rows_to : Progress → ℕ → ℕ → ℕ → Bool → RowsRead
 rows_to p read lines at all = record { progress = with_read p read; lines = lines; at = at; all = all }
 
--- rows read from a place on, with what they leave of Sender and words; nothing is said but what the registry checks say, if the day's last row is in
-pub record RowsRan (p : Progress) (lines : ℕ) (piece : Bytes) (at : ℕ) (sender : Bytes) (before : Words) (r : RowsRead) (sender' : Bytes) (after : Words)
-    : Type 0 where
+-- rows read from a place on, with what they leave of the record; nothing is said but what the registry checks say, if the day's last row is in
+pub record RowsRan (p : Progress) (lines : ℕ) (piece : Bytes) (at : ℕ) (before : Parts) (r : RowsRead) (after : Parts) : Type 0 where
   pub behind : at ≤ r.at
   pub within : r.at ≤ length piece
   pub few : Few r.progress
-  pub sender_sized : length sender' ≡ owner_size
-  pub sized : length after ≡ width
   pub fits : r.lines + (length piece - r.at) ≤ byte_limit
-  pub reaches : (reg id : Bytes) (first : ℕ)
-      → scan_to (rules_of reg) (scan [] lines (takes_rows first (rows_of p id sender before))) (between at r.at piece)
-      ≡ scan [] r.lines (judged_if r.all reg r.lines (takes_rows first (rows_of r.progress id sender' after))).unit
-  pub tells : (reg id : Bytes) (first : ℕ)
-      → scan_events (rules_of reg) (scan [] lines (takes_rows first (rows_of p id sender before))) (between at r.at piece)
-      ≡ (judged_if r.all reg r.lines (takes_rows first (rows_of r.progress id sender' after))).events
-
--- detail rows ask nothing of the Sender
-abbrev pub DetailsRan : Progress → ℕ → Bytes → ℕ → Words → RowsRead → Words → Type 0
-DetailsRan p lines piece at before r after = (sender : Bytes) → length sender ≡ owner_size → RowsRan p lines piece at sender before r sender after
+  pub reaches : (reg : Bytes) (first : ℕ)
+      → scan_to (rules_of reg) (scan [] lines (takes_rows first (rows_of p before))) (between at r.at piece)
+      ≡ scan [] r.lines (judged_if r.all reg r.lines (takes_rows first (rows_of r.progress after))).unit
+  pub tells : (reg : Bytes) (first : ℕ)
+      → scan_events (rules_of reg) (scan [] lines (takes_rows first (rows_of p before))) (between at r.at piece)
+      ≡ (judged_if r.all reg r.lines (takes_rows first (rows_of r.progress after))).events
 
 -- ---- LINES THAT A UNIT SKIPS
 
@@ -131,24 +122,19 @@ abbrev pub stood_at : KeptUnit → ℕ → ℕ → Passed
 stood_at unit lines at = record { unit = unit; lines = lines; at = at; all = false }
 
 -- what a run is asked with
-pub record Asks (unit : KeptUnit) (lines : ℕ) (piece : Bytes) (at : ℕ) (sender : Bytes) (words : Words) : Type 0 where
+pub record Asks (unit : KeptUnit) (lines : ℕ) (piece : Bytes) (at : ℕ) (r : Parts) : Type 0 where
   pub within : at ≤ length piece
   pub fits : lines + (length piece - at) ≤ byte_limit
-  pub sender_sized : length sender ≡ owner_size
-  pub sized : length words ≡ width
-  pub details : details_in (unit_of unit [] sender words) ≤ max_details
+  pub details : details_in (unit_of unit r) ≤ max_details
 
 -- lines from a place on, of the first of which so many bytes are held: what they do to the scan, once a record whose rows are all in is judged
-pub record Passes (unit : KeptUnit) (lines held : ℕ) (piece : Bytes) (at : ℕ) (sender : Bytes) (words : Words) (r : Passed) (sender' : Bytes) (words' : Words)
-    : Type 0 where
+pub record Passes (unit : KeptUnit) (lines held : ℕ) (piece : Bytes) (at : ℕ) (before : Parts) (r : Passed) (after : Parts) : Type 0 where
   pub behind : at ≤ r.at
   pub within : r.at ≤ length piece
-  pub sender_sized : length sender' ≡ owner_size
-  pub sized : length words' ≡ width
   pub fits : r.lines + (length piece - r.at) ≤ byte_limit
-  pub reaches : (reg kept id : Bytes)
-      → scan_to (rules_of reg) (scan (take held kept) lines (unit_of unit id sender words)) (between at r.at piece)
-      ≡ scan (take held kept) r.lines (judged_if r.all reg r.lines (unit_of r.unit id sender' words')).unit
-  pub tells : (reg kept id : Bytes)
-      → scan_events (rules_of reg) (scan (take held kept) lines (unit_of unit id sender words)) (between at r.at piece)
-      ≡ (judged_if r.all reg r.lines (unit_of r.unit id sender' words')).events
+  pub reaches : (reg kept : Bytes)
+      → scan_to (rules_of reg) (scan (take held kept) lines (unit_of unit before)) (between at r.at piece)
+      ≡ scan (take held kept) r.lines (judged_if r.all reg r.lines (unit_of r.unit after)).unit
+  pub tells : (reg kept : Bytes)
+      → scan_events (rules_of reg) (scan (take held kept) lines (unit_of unit before)) (between at r.at piece)
+      ≡ (judged_if r.all reg r.lines (unit_of r.unit after)).events

@@ -1,7 +1,7 @@
 // Runs of lines that stand whole in a piece and of which nothing is said: the rows of a record, as they should be, and the lines that a unit skips.
 // They go by without a step of the unit for each, and need neither registry nor table.
 //
-//     let r = run_over(unit, lines, held, piece, at, sender, words);
+//     let r = run_over(unit, lines, held, piece, at, parts);
 //     // r.at is the place behind the run; r.all says that the day's last row is in, and the registry checks follow
 //
 // A run ends before a line that is for the plain way: one that is refused, or an opener, or one that does not end in the piece. It may be of no line at all.
@@ -15,6 +15,7 @@ ghost use Rattle.runs.specs.Run.{passed_rows, passed_lines, stood_at, Asks, Pass
 
 use crate::rows::{RowsRead, record_rows};
 use crate::skip::{Skipped, skip_lines};
+use records::Parts;
 use units::Unit;
 
 pub mod rows;
@@ -33,9 +34,8 @@ pub struct Passed {
 fn behind_rows(first: u32, r: RowsRead) -> Passed
     ensures { result ≡ passed_rows first r }
 {
-    let p = r.progress;
     Passed {
-        unit: Unit::Takes(first, p),
+        unit: Unit::Takes(first, r.progress),
         lines: r.lines,
         at: r.at,
         all: r.all,
@@ -73,20 +73,17 @@ pub fn run_over(
     held: usize,
     piece: &[u8],
     at: usize,
-    sender: &mut [u8],
-    words: &mut [u32],
+    parts: &mut Parts,
 ) -> Passed
-    requires { Asks unit lines piece.now at sender.old words.old }
-    ensures { Passes unit lines held piece.now at sender.old words.old result sender.new words.new }
+    requires { Asks unit lines piece.now at parts.old }
+    ensures { Passes unit lines held piece.now at parts.old result parts.new }
 {
     if held == 0 {
         if let Unit::Takes(first, p) = unit {
-            let r = record_rows(p, lines, piece, at, sender, words);
-            return behind_rows(first, r);
+            return behind_rows(first, record_rows(p, lines, piece, at, parts));
         }
         if let Unit::Skips = unit {
-            let s = skip_lines(lines, piece, at);
-            return behind_skipped(s);
+            return behind_skipped(skip_lines(lines, piece, at));
         }
     }
     stays(unit, lines, at)

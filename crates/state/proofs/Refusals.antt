@@ -4,25 +4,26 @@ use mathlib.Core.Path.{◌≡◌, refl, sym, ◌∙◌}
 use mathlib.Core.Bool.{Bool, true, false, cond, not, ◌||◌}
 use Prim.Native.Nat.{ℕ, ◌+◌, ◌-◌, ◌<◌, ◌≤◌, ◌*◌}
 use native.Mathlib.Omega.{arith}
-use lib.Dec.{ltb}
+use lib.Dec.{leb, ltb}
 use lib.ListN.{length}
-use borrow.Author.Tests.{lt-ltb, le-ltb, ltb-false}
+use borrow.Author.Tests.{lt-ltb, le-ltb, ltb-false, leb-true, leb-false, not-true}
 use Rattle.lines.specs.Line.{kept_limit}
 use Rattle.text.specs.Byte.{Bytes}
 use Rattle.text.proofs.Truth.{apart}
 use Rattle.registry.specs.Registry.{is_registry}
-use Rattle.cell.specs.Layout.{Words, width}
-use Rattle.cells.specs.Number.{cell_count}
-use Rattle.cells.specs.Address.{meter_count, day_count, cells_of}
+use Rattle.cell.specs.Layout.{width}
+use Rattle.cells.specs.Address.{cells_of}
 use Rattle.report.specs.Refusal.{done, bad_state, bad_registry, short_table, short_report, too_many_bytes}
 use Rattle.plain.specs.Rows.{rules_of, max_details}
-use Rattle.report.specs.Outcome.{number_of, require, ◌>>◌}
+use Rattle.report.specs.Outcome.{Outcome, passed, number_of, require, ◌>>◌}
+use Rattle.report.proofs.Passing.{test-passed}
 use Rattle.cells.specs.Sound.{for_table}
 use Rattle.plain.specs.Call.{byte_limit, room_for, refused_at, Asked, piece_of}
 use Rattle.plain.specs.Promise.{details_in, overfull}
 use Rattle.plain.proofs.Calls.{Allowed, allowed}
 use Rattle.plain.proofs.Rules.{lawful}
 use Rattle.units.specs.Answer.{unit_of}
+use Rattle.records.specs.declared.Parts.{Parts}
 use Rattle.state.specs.declared.State.{State}
 use Rattle.state.specs.View.{view_of}
 use Rattle.state.specs.Refused.{number_for}
@@ -33,63 +34,21 @@ or_right false true c d = refl
 or_right false false true d = refl
 or_right false false false d = refl
 
--- 1
-pub overfull-says : (s : State) (x : ℕ) → ((id sender : Bytes) (words : Words) → x ≡ details_in (unit_of s.unit id sender words))
-    → (((ltb kept_limit s.held || ltb byte_limit s.taken) || ltb max_details x) || ltb s.taken s.lines) ≡ overfull (view_of s)
+-- 1, as the code tests it
+pub overfull-tested : (s : State) (x : ℕ) → ((r : Parts) → x ≡ details_in (unit_of s.scan.unit r))
+    → (((ltb kept_limit s.scan.held || ltb byte_limit s.taken) || ltb max_details x) || ltb s.taken s.scan.lines) ≡ overfull (view_of s)
 unfolding overfull view_of
-overfull-says s x e =
-    or_right (ltb kept_limit s.held) (ltb byte_limit s.taken) (ltb max_details x) (ltb s.taken s.lines)
-    ∙ rw (e s.id s.sender s.words)
+overfull-tested s x e =
+    or_right (ltb kept_limit s.scan.held) (ltb byte_limit s.taken) (ltb max_details x) (ltb s.taken s.scan.lines)
+    ∙ rw (e s.scan.parts)
 
--- 2 and 3 are the first two of the plain loader's tests
-first_two : (p q : Bool) (number rest : ℕ) → number ≡ number_of (require p bad_registry >> require (not q) short_table) → ¬ (number ≡ done)
-    → number ≡ cond (not p) bad_registry (cond q short_table rest)
-first_two false q number rest e some = e
-first_two true true number rest e some = e
-first_two true false number rest e some = absurd (some e)
+-- ---- WHAT A STATE HOLDS that is not overfull
 
-none_of-two : (p q : Bool) (number : ℕ) → number ≡ number_of (require p bad_registry >> require (not q) short_table) → number ≡ done
-    → (p ≡ true) × (q ≡ false)
-none_of-two false q number e passes = absurd (omega (arith, e, passes))
-none_of-two true true number e passes = absurd (omega (arith, e, passes))
-none_of-two true false number e passes = (refl, refl)
-
-module _ (reg : Bytes) (sound : Bool) (meters days size taken room n number : ℕ) (s : sound ≡ is_registry reg) (m : meters ≡ meter_count reg)
-    (d : days ≡ day_count reg) (is : number ≡ number_of (for_table sound (cell_count meters days) size)) where
-  tested : number ≡ number_of (for_table (is_registry reg) (cells_of reg) size)
-  tested = rw (← s, ← m, ← d) is
-
-  pub refused-table : ¬ (number ≡ done) → number ≡ refused_at (rules_of reg) size taken room n
-  unfolding refused_at rules_of for_table
-  refused-table some = first_two (is_registry reg) (ltb size (cells_of reg * width)) number _ tested some
-
-  module _ (passes : number ≡ done) where
-    right : (is_registry reg ≡ true) × (ltb size (cells_of reg * width) ≡ false)
-    unfolding for_table
-    right = none_of-two (is_registry reg) (ltb size (cells_of reg * width)) number tested passes
-
-    pub refused_4 : room < room_for n → short_report ≡ refused_at (rules_of reg) size taken room n
-    unfolding refused_at rules_of
-    refused_4 r = rw (right.0, right.1, lt-ltb room (room_for n) r)
-
-    module _ (r : room_for n ≤ room) (t : taken ≤ byte_limit) where
-      pub refused_5 : byte_limit - taken < n → too_many_bytes ≡ refused_at (rules_of reg) size taken room n
-      unfolding refused_at rules_of
-      refused_5 b = rw (right.0, right.1, le-ltb room (room_for n) r, lt-ltb byte_limit (taken + n) (omega arith))
-
-      pub refused_none : n ≤ byte_limit - taken → done ≡ refused_at (rules_of reg) size taken room n
-      unfolding refused_at rules_of
-      refused_none b = rw (right.0, right.1, le-ltb room (room_for n) r, le-ltb byte_limit (taken + n) (omega arith))
-
--- the whole number
-module _ (s : State) (reg : Bytes) (size room n : ℕ) (full : Bool) (is : full ≡ overfull (view_of s)) where
-  pub number_full : full ≡ true → bad_state ≡ number_for s reg size room n
-  unfolding number_for
-  number_full h = sym (rw (sym is ∙ h))
-
-  pub number_else : (x : ℕ) → full ≡ false → x ≡ refused_at (rules_of reg) size s.taken room n → x ≡ number_for s reg size room n
-  unfolding number_for
-  number_else x h e = e ∙ sym (rw (sym is ∙ h))
+pub record Fits (s : State) : Type 0 where
+  pub held : s.scan.held ≤ kept_limit
+  pub taken : s.taken ≤ byte_limit
+  pub details : details_in (unit_of s.scan.unit s.scan.parts) ≤ max_details
+  pub lines : s.scan.lines ≤ s.taken
 
 or_none : (a b c d : Bool) → (a || (b || (c || d))) ≡ false → (a ≡ false) × (b ≡ false) × (c ≡ false) × (d ≡ false)
 or_none false false false false h = (refl, refl, refl, refl)
@@ -98,18 +57,11 @@ or_none false true c d h = absurd (apart (sym h))
 or_none false false true d h = absurd (apart (sym h))
 or_none false false false true h = absurd (apart (sym h))
 
--- what a state that is not overfull holds
-pub record Fits (s : State) : Type 0 where
-  pub held : s.held ≤ kept_limit
-  pub taken : s.taken ≤ byte_limit
-  pub details : details_in (unit_of s.unit s.id s.sender s.words) ≤ max_details
-  pub lines : s.lines ≤ s.taken
-
-pub not_full : (s : State) (full : Bool) → full ≡ overfull (view_of s) → full ≡ false → Fits s
+not_full : (s : State) → overfull (view_of s) ≡ false → Fits s
 unfolding overfull view_of
-not_full s full is h =
-    let all = or_none (ltb kept_limit s.held) (ltb byte_limit s.taken) (ltb max_details (details_in (unit_of s.unit s.id s.sender s.words)))
-    (ltb s.taken s.lines) (sym is ∙ h) in
+not_full s h =
+    let all = or_none (ltb kept_limit s.scan.held) (ltb byte_limit s.taken) (ltb max_details (details_in (unit_of s.scan.unit s.scan.parts)))
+    (ltb s.taken s.scan.lines) h in
     record {
       held = ltb-false _ _ all.0;
       taken = ltb-false _ _ all.1;
@@ -117,7 +69,52 @@ not_full s full is h =
       lines = ltb-false _ _ all.3;
     }
 
--- ---- a call that is not refused
+-- so let the first test pass
+pub tested-taken : (s : State) (full : Bool) → full ≡ overfull (view_of s) → passed tt ≡ require (not full) bad_state → s.taken ≤ byte_limit
+tested-taken s full is e = (not_full s (sym is ∙ not-true full (test-passed (not full) bad_state e))).taken
+
+-- ---- THE TESTS, one after the other
+
+-- what is tested by its opposite
+opposite : (a b c d : ℕ) → (a ≤ b → c ≤ d) → (b < a → d < c) → ltb d c ≡ not (leb a b)
+opposite a b c d passes fails = go (leb a b) refl
+  where
+    go : (t : Bool) → leb a b ≡ t → ltb d c ≡ not t
+    go true e = le-ltb d c (passes (leb-true a b e))
+    go false e = lt-ltb d c (fails (leb-false a b e))
+
+in_order : (p q r t : Bool)
+    → cond (not p) bad_registry (cond q short_table (cond (not r) short_report (cond (not t) too_many_bytes done)))
+    ≡ number_of (require p bad_registry >> require (not q) short_table >> (require r short_report >> require t too_many_bytes))
+in_order false q r t = refl
+in_order true true r t = refl
+in_order true false false t = refl
+in_order true false true false = refl
+in_order true false true true = refl
+
+module _ (s : State) (reg : Bytes) (size room n : ℕ) where
+  abbrev tests : Outcome (Unit {0})
+  tests = do
+    require (not (overfull (view_of s))) bad_state
+    for_table (is_registry reg) (cells_of reg) size
+    require (leb (room_for n) room) short_report
+    require (leb n (byte_limit - s.taken)) too_many_bytes
+
+  pub number-tested : number_for s reg size room n ≡ number_of tests
+  unfolding number_for refused_at rules_of for_table
+  number-tested = go (overfull (view_of s)) refl
+    where
+      go : (full : Bool) → overfull (view_of s) ≡ full → number_for s reg size room n ≡ number_of tests
+      go true e = rw e
+      go false e =
+          rw (
+            e,
+            opposite (room_for n) room (room_for n) room (λ h. h) (λ h. h),
+            opposite n (byte_limit - s.taken) (s.taken + n) byte_limit (λ h. omega (arith, (not_full s e).taken)) (λ h. omega arith),
+          )
+          (in_order (is_registry reg) (ltb size (cells_of reg * width)) (leb (room_for n) room) (leb n (byte_limit - s.taken)))
+
+-- ---- A CALL THAT IS NOT REFUSED
 
 module _ (s : State) (reg : Bytes) (size room : ℕ) (a : Asked) (e : done ≡ number_for s reg size room (length (piece_of a))) where
   -- neither 1 nor 2 to 5
@@ -130,7 +127,7 @@ module _ (s : State) (reg : Bytes) (size room : ℕ) (a : Asked) (e : done ≡ n
       go false h = refl
 
   pub fits-state : Fits s
-  fits-state = not_full s (overfull (view_of s)) refl not_overfull
+  fits-state = not_full s not_overfull
 
   pub is-allowed : Allowed (rules_of reg) (lawful reg) size s.taken (record { asked = a; room = room })
   unfolding number_for

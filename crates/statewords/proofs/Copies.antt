@@ -1,4 +1,4 @@
--- Numbers put into a lent run one by one: words as bytes, and words or bytes from a place on.
+-- Numbers put into a lent run one by one: words as bytes, and bytes from a place on.
 -- Assumes nothing.
 use mathlib.Core.Path.{◌≡◌, refl, sym, ◌∙◌}
 use mathlib.Core.List.{[], ◌∷◌}

@@ -1,4 +1,3 @@
 -- Laws of the definitions, by subject; each function's proof cites them.
 pub mod Copies
-pub mod Units
 pub mod Parts

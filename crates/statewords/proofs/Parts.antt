@@ -4,22 +4,28 @@ use mathlib.Core.Path.{◌≡◌, refl, sym, ap, ◌∙◌}
 use mathlib.Core.List.{[], ◌++◌, append_assoc, append-nil}
 use Prim.Native.Nat.{ℕ, ◌+◌, ◌≤◌}
 use native.Mathlib.Omega.{arith}
-use lib.ListN.{length, take, get_or, length-append}
+use lib.ListN.{length, take, length-append}
 use lib.Seq.{take_at, drop_at, take_all, take-length, take-paste, length-paste}
 use Rattle.lines.specs.Line.{kept_limit}
-use Rattle.text.specs.Byte.{Bytes}
 use Rattle.text.specs.Identifier.{esi_id_size, duns_size}
 use Rattle.cell.specs.Layout.{Words, width}
-use Rattle.units.specs.declared.Unit.{Unit}
-use Rattle.state.specs.declared.State.{State}
-use Rattle.statewords.specs.Layout.{numbers_size, unit_size, numbers_at, unit_at, id_at, sender_at, words_at, state_words, part_at, bytes_in, wide_in, unit_from, state_of, state_in}
-use Rattle.statewords.specs.Private.{put_at, Sized, PartsPut}
+use Rattle.statewords.specs.Layout.{numbers_size, unit_size, numbers_at, unit_at, id_at, sender_at, words_at, state_words, part_at, state_of, state_in}
+use Rattle.statewords.specs.Private.{put_at}
 
 -- ---- the parts of a list
 
 part-is : (front part rest ws : Words) (at n : ℕ) → ws ≡ front ++ part ++ rest → length front ≡ at → length part ≡ n → part_at at n ws ≡ part
 part-is front part rest ws at n e f p =
     rw (e, append_assoc front part rest, drop_at front (part ++ rest) at f) (take_at part rest n p)
+
+-- parts as long as the layout says
+pub record Sized (kept numbers unit id sender words : Words) : Type 0 where
+  pub kept_sized : length kept ≡ kept_limit
+  pub numbers_sized : length numbers ≡ numbers_size
+  pub unit_sized : length unit ≡ unit_size
+  pub id_sized : length id ≡ esi_id_size
+  pub sender_sized : length sender ≡ duns_size
+  pub words_sized : length words ≡ width
 
 module _ (kept numbers unit id sender words : Words) (z : Sized kept numbers unit id sender words) where
   abbrev all : Words
@@ -49,17 +55,6 @@ module _ (kept numbers unit id sender words : Words) (z : Sized kept numbers uni
         part-is (kept ++ numbers ++ unit ++ id ++ sender) words [] all words_at width (simp (append_assoc, append-nil)) to-words z.words_sized,
       )
 
--- ---- taken one by one
-
-module _ (ws : Words) (kept id sender : Bytes) (held taken lines : ℕ) (unit : Unit) (words : Words) where
-  pub parts_in : kept ≡ bytes_in (part_at 0 kept_limit ws) → held ≡ wide_in (part_at numbers_at numbers_size ws) 0
-      → taken ≡ wide_in (part_at numbers_at numbers_size ws) 2 → lines ≡ get_or (part_at numbers_at numbers_size ws) 4 0
-      → unit ≡ unit_from (part_at unit_at unit_size ws) → id ≡ bytes_in (part_at id_at esi_id_size ws) → sender ≡ bytes_in (part_at sender_at duns_size ws)
-      → words ≡ part_at words_at width ws
-      → ◌≡◌ {A = State} (record { kept = kept; held = held; taken = taken; lines = lines; unit = unit; id = id; sender = sender; words = words }) (state_in ws)
-  unfolding state_in
-  parts_in k h t l u i s w = rw (k, h, t, l, u, i, s, w)
-
 -- ---- put one behind the other
 
 -- words of a state's length that begin so
@@ -77,9 +72,10 @@ begins-more ws next front part at n b e l h =
     }
 
 -- each part put behind those before it
-module _ (ws one two three four five after kept numbers unit id sender words : Words) (l : length ws ≡ state_words) (z : Sized kept numbers unit id sender words)
+module _ (ws one two three four five after kept numbers unit id sender words : Words) (l : length ws ≡ state_words)
     (k : one ≡ put_at ws 0 kept) (n : two ≡ put_at one numbers_at numbers) (u : three ≡ put_at two unit_at unit) (i : four ≡ put_at three id_at id)
-    (d : five ≡ put_at four sender_at sender) (w : after ≡ put_at five words_at words) where
+    (d : five ≡ put_at four sender_at sender) (w : after ≡ put_at five words_at words)
+    (z : Sized kept numbers unit id sender words) where
   begins-all : Begins after (kept ++ numbers ++ unit ++ id ++ sender ++ words) state_words
   begins-all =
       begins-more five after _ words words_at width
@@ -99,8 +95,3 @@ module _ (ws one two three four five after kept numbers unit id sender words : W
 
   pub put_all : state_in after ≡ state_of kept numbers unit id sender words
   put_all = ap state_in after_is ∙ state_of_lem kept numbers unit id sender words z
-
--- the parts of a state are that state
-pub state-is : (s : State) (numbers unit after : Words) → PartsPut s.kept numbers unit s.id s.sender s.words after → wide_in numbers 0 ≡ s.held
-    → wide_in numbers 2 ≡ s.taken → get_or numbers 4 0 ≡ s.lines → unit_from unit ≡ s.unit → state_in after ≡ s
-state-is s numbers unit after p h t l u = p.state ∙ rw (p.kept_bytes, h, t, l, u, p.id_bytes, p.sender_bytes)

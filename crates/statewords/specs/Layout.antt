@@ -73,14 +73,14 @@ unit_from u = unit_in (get_or u 0 0) (get_or u 1 0) (get_or u 2 0) (get_or u 3 0
 abbrev pub state_of : Words → Words → Words → Words → Words → Words → State
 state_of kept numbers unit id sender words =
     record {
-      kept = bytes_in kept;
-      held = wide_in numbers 0;
+      scan = record {
+        kept = bytes_in kept;
+        held = wide_in numbers 0;
+        lines = get_or numbers 4 0;
+        unit = unit_from unit;
+        parts = record { id = bytes_in id; sender = bytes_in sender; words = words };
+      };
       taken = wide_in numbers 2;
-      lines = get_or numbers 4 0;
-      unit = unit_from unit;
-      id = bytes_in id;
-      sender = bytes_in sender;
-      words = words;
     }
 
 -- the state that words are

@@ -1,24 +1,24 @@
 // A state as a run of 32-bit words, and words as a state: so it crosses the border to C and Rust.
 //
 //     let s = state_in(words);            // words: &[u32] of STATE_WORDS
-//     put_state(words, next);             // words: &mut [u32] of STATE_WORDS
+//     put_state(words, &next);            // words: &mut [u32] of STATE_WORDS
 //
 // specs/Layout.antt says which words are which part. Whatever the words hold, they are some state.
 //
-// For whoever changes it: what `put_state` writes is read back as the same state, so a part that moves, moves in both and in specs/Layout.antt. The parts are
-// put one behind the other by `put_parts`, over slices only; `put_state` takes a state apart for it.
+// For whoever changes it: what `put_state` writes is read back as the same state, so a part that moves, moves in both and in specs/Layout.antt.
 #![tactic(auto)]
 
 ghost use Rattle.std.specs.Prelude.{◌≡◌, ◌+◌, ◌<◌, ◌≤◌, length, get_or};
 ghost use Rattle.statewords.specs.Layout.{state_words, unit_size, bytes_in, wide_in, channel_in, unit_from, state_in};
-ghost use Rattle.statewords.specs.Private.{put_at, Sized, PartsPut};
+ghost use Rattle.statewords.specs.Private.{put_at};
 
+use cell::Cell;
 use cell::mark::WORD_BITS;
-use cell::{Cell, copy};
 use headers::one::Channel;
 use lines::keep::KEPT_LIMIT;
-use records::{Progress, Ready};
-use state::{State, sized};
+use pieces::Scan;
+use records::{Parts, Progress, Ready};
+use state::State;
 use text::names::{DUNS_SIZE, ESI_ID_SIZE};
 use units::Unit;
 
@@ -39,6 +39,7 @@ const WORDS_AT: usize = SENDER_AT + DUNS_SIZE;
 pub const STATE_WORDS: usize = WORDS_AT + Cell::WIDTH;
 
 // Words that are bytes, as bytes.
+#[tactic(auto, using(crate::proofs::Copies::get_again, crate::proofs::Copies::get_end))]
 fn get_bytes(to: &mut [u8], from: &[u32])
     requires { length to.old ≡ length from.now }
     ensures { to.new ≡ bytes_in from.now }
@@ -49,9 +50,11 @@ fn get_bytes(to: &mut [u8], from: &[u32])
 }
 
 // Bytes put from a place on, a byte a word.
+#[tactic(auto, using(crate::proofs::Copies::put_again))]
 fn put_bytes(to: &mut [u32], at: usize, from: &[u8])
     requires { at + length from.now ≤ length to.old }
-    ensures { (to.new ≡ put_at to.old at from.now) × (bytes_in from.now ≡ from.now) }
+    ensures put { to.new ≡ put_at to.old at from.now }
+    ensures bytes { bytes_in from.now ≡ from.now }
 {
     for (i, b) in from.iter().enumerate() {
         to[at + i] = u32::from(*b);
@@ -59,6 +62,7 @@ fn put_bytes(to: &mut [u32], at: usize, from: &[u8])
 }
 
 // Words put from a place on.
+#[tactic(auto, unfolding(crate::specs::Private::put_at))]
 fn put_words(to: &mut [u32], at: usize, from: &[u32])
     requires { at + length from.now ≤ length to.old }
     ensures { to.new ≡ put_at to.old at from.now }
@@ -84,6 +88,7 @@ fn channel_in(word: u32) -> Channel
     }
 }
 
+#[tactic(auto, unfolding(crate::specs::Layout::unit_from))]
 fn unit_in(words: &[u32]) -> Unit
     requires { length words.now ≡ unit_size }
     ensures { result ≡ unit_from words.now }
@@ -115,6 +120,7 @@ fn unit_in(words: &[u32]) -> Unit
 }
 
 // The state that words are.
+#[tactic(auto, unfolding(crate::specs::Layout::state_in))]
 pub fn state_in(state: &[u32]) -> State
     requires { length state.now ≡ state_words }
     ensures { result ≡ state_in state.now }
@@ -128,16 +134,16 @@ pub fn state_in(state: &[u32]) -> State
     let unit = unit_in(&state[UNIT_AT..ID_AT]);
     get_bytes(&mut id, &state[ID_AT..SENDER_AT]);
     get_bytes(&mut sender, &state[SENDER_AT..WORDS_AT]);
-    copy(&mut words, &state[WORDS_AT..STATE_WORDS]);
+    words.copy_from_slice(&state[WORDS_AT..STATE_WORDS]);
     State {
-        kept,
-        held: wide_in(numbers, 0),
+        scan: Scan {
+            kept,
+            held: wide_in(numbers, 0),
+            lines: numbers[4],
+            unit,
+            parts: Parts { id, sender, words },
+        },
         taken: wide_in(numbers, 2),
-        lines: numbers[4],
-        unit,
-        id,
-        sender,
-        words,
     }
 }
 
@@ -150,34 +156,28 @@ fn channel_word(channel: Channel) -> u32
     }
 }
 
+#[tactic(auto, unfolding(crate::specs::Layout::unit_from))]
 fn unit_words(unit: Unit) -> [u32; 7]
     ensures { unit_from result ≡ unit }
 {
     match unit {
         Unit::None => [0, 0, 0, 0, 0, 0, 0],
-        Unit::Takes(first, p) => {
-            let channel = p.channel;
-            let c = channel_word(channel);
-            [1, first, p.read, p.due, p.day, 0, c]
-        }
-        Unit::Waits(first, last, r) => {
-            let channel = r.channel;
-            let c = channel_word(channel);
-            [
-                2,
-                first,
-                last,
-                u32::from(r.meter),
-                u32::from(r.offset),
-                r.day,
-                c,
-            ]
-        }
+        Unit::Takes(first, p) => [1, first, p.read, p.due, p.day, 0, channel_word(p.channel)],
+        Unit::Waits(first, last, ready) => [
+            2,
+            first,
+            last,
+            u32::from(ready.meter),
+            u32::from(ready.offset),
+            ready.day,
+            channel_word(ready.channel),
+        ],
         Unit::Skips => [3, 0, 0, 0, 0, 0, 0],
     }
 }
 
 // The bytes held, the bytes taken and the line count.
+#[tactic(auto, unfolding(crate::specs::Layout::wide_in))]
 fn number_words(held: usize, taken: usize, lines: u32) -> [u32; 5]
     ensures { (wide_in result 0 ≡ held) × (wide_in result 2 ≡ taken) × (get_or result 4 0 ≡ lines) }
 {
@@ -190,39 +190,18 @@ fn number_words(held: usize, taken: usize, lines: u32) -> [u32; 5]
     ]
 }
 
-// All parts, one behind the other.
-fn put_parts(
-    state: &mut [u32],
-    kept: &[u8],
-    numbers: &[u32],
-    unit: &[u32],
-    id: &[u8],
-    sender: &[u8],
-    words: &[u32],
-)
-    requires { (length state.old ≡ state_words) × Sized kept.now numbers.now unit.now id.now sender.now words.now }
-    ensures { PartsPut kept.now numbers.now unit.now id.now sender.now words.now state.new }
-{
-    put_bytes(state, 0, kept);
-    put_words(state, NUMBERS_AT, numbers);
-    put_words(state, UNIT_AT, unit);
-    put_bytes(state, ID_AT, id);
-    put_bytes(state, SENDER_AT, sender);
-    put_words(state, WORDS_AT, words);
-}
-
 // The words of a state.
-pub fn put_state(state: &mut [u32], given: State)
+pub fn put_state(state: &mut [u32], given: &State)
     requires { length state.old ≡ state_words }
-    ensures { state_in state.new ≡ given }
+    ensures { state_in state.new ≡ given.now }
 {
-    let s = sized(given);
-    let kept = s.kept;
-    let numbers = number_words(s.held, s.taken, s.lines);
-    let u = s.unit;
-    let unit = unit_words(u);
-    let id = s.id;
-    let sender = s.sender;
-    let words = s.words;
-    put_parts(state, &kept, &numbers, &unit, &id, &sender, &words);
+    let scan = &given.scan;
+    let numbers = number_words(scan.held, given.taken, scan.lines);
+    let unit = unit_words(scan.unit);
+    put_bytes(state, 0, &scan.kept);
+    put_words(state, NUMBERS_AT, &numbers);
+    put_words(state, UNIT_AT, &unit);
+    put_bytes(state, ID_AT, &scan.parts.id);
+    put_bytes(state, SENDER_AT, &scan.parts.sender);
+    put_words(state, WORDS_AT, &scan.parts.words);
 }

@@ -6,4 +6,3 @@ pub mod Equal
 pub mod Comma
 pub mod Decimal
 pub mod DigitsOf
-pub mod Copied

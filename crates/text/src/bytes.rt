@@ -1,4 +1,4 @@
-// Classes of bytes, texts compared, and a text copied.
+// Classes of bytes, and texts compared.
 ghost use Rattle.std.specs.Prelude.{◌≡◌, Bool, length};
 ghost use Rattle.text.specs.Byte.{is_digit, is_alnum, is_empty, every, equals, starts_with};
 
@@ -59,12 +59,4 @@ pub fn begins(s: &[u8], p: &[u8]) -> bool
     ensures { result ≡ starts_with p.now s.now }
 {
     s.starts_with(p)
-}
-
-// The bytes of a text, put in the place of as many others.
-pub fn copy(to: &mut [u8], text: &[u8])
-    requires { length to.old ≡ length text.now }
-    ensures { to.new ≡ text.now }
-{
-    to.copy_from_slice(text);
 }

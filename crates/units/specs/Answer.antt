@@ -1,40 +1,37 @@
 -- The unit as the code keeps it, by value beside the lent parts of its record; and what a line did to it.
 -- Assumes nothing.
-use Rattle.std.specs.Prelude.{◌≡◌, List, [], ◌∷◌, ◌++◌, Bool, true, false, ℕ, suc, ◌*◌, ◌≤◌, length}
+use Rattle.std.specs.Prelude.{◌≡◌, List, [], ◌∷◌, ◌++◌, Option, Some, None as Nothing, Bool, true, false, ℕ, suc, ◌≤◌, length}
 use Rattle.report.specs.Words.{entry_of}
 use Rattle.text.specs.Byte.{Bytes}
 use Rattle.lines.specs.Line.{Line}
-use Rattle.report.specs.Verdict.{surplus}
+use Rattle.report.specs.Verdict.{verdict_number, surplus}
+use Rattle.report.specs.declared.verdict.Fault.{Fault}
 use Rattle.lines.specs.declared.line.Kind.{Kind}
 use Rattle.lines.specs.declared.line.Kind.TheVariants.{Empty, Opener, Detail, Other}
-use Rattle.registry.specs.Registry.{max_meters}
-use Rattle.registry.specs.Entry.{max_days}
-use Rattle.cell.specs.Layout.{Words, width}
-use Rattle.cells.specs.Number.{cell_count}
-use Rattle.cells.specs.Address.{meter_count, day_count}
+use Rattle.cell.specs.Layout.{Words}
+use Rattle.cells.specs.Address.{table_size}
 use Rattle.report.specs.declared.Entry.{Entry}
 use Rattle.plain.specs.Rows.{Rules, checked}
 use Rattle.plain.specs.Table.{load_all}
 use Rattle.plain.specs.Loader.{OpenUnit, no_unit, takes_rows, waits, skips, Event, Step, stray_at, settle, entries_of, loads_of, step_kind}
-use Rattle.records.specs.declared.Known.{Known}
 use Rattle.records.specs.declared.Ready.{Ready}
+use Rattle.records.specs.declared.Parts.{Parts}
 use Rattle.records.specs.Answer.{rows_of, record_of}
 use Rattle.units.specs.declared.Unit.{Unit as KeptUnit}
 use Rattle.units.specs.declared.Unit.TheVariants.{None, Takes, Waits, Skips}
-use Rattle.units.specs.declared.Said.{Said}
-use Rattle.units.specs.declared.Said.TheVariants.{Nothing, Verdict}
 use Rattle.units.specs.declared.Stepped.{Stepped}
 use Rattle.units.specs.declared.LineRead.{LineRead}
 
-abbrev pub unit_of : KeptUnit → Bytes → Bytes → Words → OpenUnit
-unit_of None id sender words = no_unit
-unit_of (Takes first p) id sender words = takes_rows first (rows_of p id sender words)
-unit_of (Waits first last r) id sender words = waits first last (record_of r words)
-unit_of Skips id sender words = skips
+abbrev pub unit_of : KeptUnit → Parts → OpenUnit
+unit_of None r = no_unit
+unit_of (Takes first p) r = takes_rows first (rows_of p r)
+unit_of (Waits first last ready) r = waits first last (record_of ready r)
+unit_of Skips r = skips
 
-abbrev pub told : Said → List Entry
+-- the entry of a verdict, if one fell
+abbrev pub told : Option Entry → List Entry
 told Nothing = []
-told (Verdict e) = e ∷ []
+told (Some e) = e ∷ []
 
 abbrev pub told_by : LineRead → List Entry
 told_by r = told r.first ++ told r.second
@@ -65,16 +62,20 @@ left_by Other skips = skips
 abbrev pub read_by : Rules → Kind → ℕ → Line → OpenUnit → Step
 read_by R k n l u = step_kind R k n l (left_by k u)
 
+-- nothing is said
+abbrev pub quiet_step : OpenUnit → Step
+quiet_step u = record { unit = u; events = [] }
+
 -- all rows of a record are in, the last of them at line n: the registry checks
 abbrev pub checked_at : Bytes → ℕ → OpenUnit → Step
-checked_at reg n no_unit = record { unit = no_unit; events = [] }
+checked_at reg n no_unit = quiet_step no_unit
 checked_at reg n (takes_rows first rows) = settle first n (checked reg rows)
-checked_at reg n (waits first last r) = record { unit = waits first last r; events = [] }
-checked_at reg n skips = record { unit = skips; events = [] }
+checked_at reg n (waits first last r) = quiet_step (waits first last r)
+checked_at reg n skips = quiet_step skips
 
 abbrev pub judged_if : Bool → Bytes → ℕ → OpenUnit → Step
 judged_if true reg n u = checked_at reg n u
-judged_if false reg n u = record { unit = u; events = [] }
+judged_if false reg n u = quiet_step u
 
 -- ---- WHAT A LINE DID, BESIDE WHAT THE PLAIN LOADER'S STEP DOES
 
@@ -94,12 +95,15 @@ pub record Does (R : Rules) (step : Step) (unit : OpenUnit) (entries : List Entr
   pub leaves : unit ≡ step.unit
   pub tells : Tells R step.events entries before after
 
--- a stray run; a surplus row; a line of which nothing is said
+-- a record that is refused; a stray run; a surplus row; a line of which nothing is said
+abbrev pub refused_at : ℕ → Fault → ℕ → ℕ → Stepped
+refused_at first fault n day = record { unit = Skips; said = Some (entry_of first (verdict_number fault.verdict) n fault.meter day) }
+
 abbrev pub stray_from : ℕ → Stepped
-stray_from n = record { unit = Skips; said = Verdict (stray_at n).entry }
+stray_from n = record { unit = Skips; said = Some (stray_at n).entry }
 
 abbrev pub surplus_at : ℕ → ℕ → Ready → Stepped
-surplus_at first n r = record { unit = Skips; said = Verdict (entry_of first surplus n (suc r.meter) r.day) }
+surplus_at first n ready = record { unit = Skips; said = Some (entry_of first surplus n (suc ready.meter) ready.day) }
 
 abbrev pub quietly : KeptUnit → Stepped
 quietly unit = record { unit = unit; said = Nothing }
@@ -111,13 +115,6 @@ kind_if false = Other
 
 -- ---- THE TABLE
 
--- the table has room for the cells of so many meters and days
-pub record HasRoom (known : Known) (table : Words) : Type 0 where
-  pub few : known.count ≤ max_meters
-  pub short : known.window.days ≤ max_days
-  pub long : cell_count known.count known.window.days * width ≤ length table
-
--- meters and days are those of a registry
-pub record Counted (reg : Bytes) (known : Known) : Type 0 where
-  pub meters : known.count ≡ meter_count reg
-  pub days : known.window.days ≡ day_count reg
+-- the table has room for the registry's cells
+abbrev pub HasRoom : Bytes → Words → Type 0
+HasRoom reg table = table_size reg ≤ length table

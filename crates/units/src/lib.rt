@@ -8,29 +8,27 @@
 // it does is `step-parts` of proofs/Kept.antt.
 #![tactic(auto)]
 
-ghost use Rattle.std.specs.Prelude.{◌≡◌, ℕ, suc, ◌≤◌, length};
-ghost use Rattle.text.specs.Byte.{Bytes};
-ghost use Rattle.text.specs.Identifier.{esi_id_size};
+ghost use Rattle.std.specs.Prelude.{◌≡◌, Ok, ℕ, suc, ◌≤◌};
 ghost use Rattle.lines.specs.Answer.{line_of};
 ghost use Rattle.lines.specs.declared.line.Kind.TheVariants.{Other};
-ghost use Rattle.registry.specs.Entry.{owner_size};
-ghost use Rattle.cell.specs.Layout.{Words, width};
 ghost use Rattle.plain.specs.Rows.{max_details, first_row, rules_of};
 ghost use Rattle.plain.specs.Table.{load_all};
 ghost use Rattle.plain.specs.Loader.{close, settle as settles, entries_of, loads_of, step_line};
 ghost use Rattle.plain.specs.Promise.{details_in};
-ghost use Rattle.records.specs.Answer.{row_says, Sized, Indexed};
-ghost use Rattle.units.specs.Answer.{unit_of, told, told_by, ended, read_by, judged_if, Reads, Does, stray_from, surplus_at, quietly, kind_if, HasRoom, Counted};
+ghost use Rattle.records.specs.Answer.{row_says};
+ghost use Rattle.records.specs.declared.Parts.{Parts};
+ghost use Rattle.units.specs.Answer.{unit_of, told, told_by, ended, read_by, judged_if, quiet_step, Reads, Does, refused_at, stray_from, surplus_at, quietly, kind_if, HasRoom};
 
-use cells::{cell_number, channel_number};
-use lines::line::{Kind, kind_of};
+use cells::{Address, cell_number, channel_number};
+use lines::line::{Kind, Line, kind_of};
 use reads::load;
-use records::{Known, Progress, Ready, RowRead, check, row_next, row_one};
+use records::{After, Parts, Progress, Ready, check, row_next, row_one};
+use registry::Index;
 use report::Entry;
-use report::verdict::{LOADED, SHORT, STRAY, SURPLUS};
+use report::verdict::{Fault, LOADED, Verdict};
 
 // None; a record that takes rows, with its first line; a record that waits, with its first line and its last row's; or one that skips.
-#[derive(Clone, Copy)]
+#[derive(Clone, Copy, Debug, PartialEq, Eq)]
 pub enum Unit {
     None,
     Takes(u32, Progress),
@@ -38,33 +36,26 @@ pub enum Unit {
     Skips,
 }
 
-// The entry of a verdict that fell, if one did.
-#[derive(Clone, Copy)]
-pub enum Said {
-    Nothing,
-    Verdict(Entry),
-}
-
-// What a line leaves as it is read: the unit, and the verdict that fell, if one did.
-#[derive(Clone, Copy)]
+// What a line leaves as it is read: the unit, and the entry of the verdict that fell, if one did.
+#[derive(Clone, Copy, Debug, PartialEq, Eq)]
 pub struct Stepped {
     pub unit: Unit,
-    pub said: Said,
+    pub said: Option<Entry>,
 }
 
 // What a line leaves in all: the unit, and the verdicts of the unit that it ended and of its own, in this order.
-#[derive(Clone, Copy)]
+#[derive(Clone, Copy, Debug, PartialEq, Eq)]
 pub struct LineRead {
     pub unit: Unit,
-    pub first: Said,
-    pub second: Said,
+    pub first: Option<Entry>,
+    pub second: Option<Entry>,
 }
 
 // ---- THE UNIT ENDS
 
 // The unit that a line of a kind ends before it is read: an opener ends any, a line that is neither empty nor a detail line one that waits.
 fn ended_by(kind: Kind, unit: Unit) -> Unit
-    ensures { (id sender : Bytes) (words : Words) → unit_of result id sender words ≡ ended kind (unit_of unit id sender words) }
+    ensures { (r : Parts) → unit_of result r ≡ ended kind (unit_of unit r) }
 {
     match kind {
         Kind::Empty => Unit::None,
@@ -76,7 +67,7 @@ fn ended_by(kind: Kind, unit: Unit) -> Unit
 
 // The unit, if it waits.
 fn waiting(unit: Unit) -> Unit
-    ensures { (id sender : Bytes) (words : Words) → unit_of result id sender words ≡ ended Other (unit_of unit id sender words) }
+    ensures { (r : Parts) → unit_of result r ≡ ended Other (unit_of unit r) }
 {
     match unit {
         Unit::None => Unit::None,
@@ -87,86 +78,93 @@ fn waiting(unit: Unit) -> Unit
 }
 
 // The report counts meters from 1.
-fn meter_number(r: Ready) -> u32
-    ensures { result ≡ suc r.meter }
+fn meter_number(ready: Ready) -> u32
+    ensures { result ≡ suc ready.meter }
 {
-    r.meter as u32 + 1
+    u32::from(ready.meter) + 1
 }
 
 // A unit ends at an opener, line n, or at finish, n then being one past the lines: one that takes rows gets 12, one that waits 0.
-pub fn closing(unit: Unit, n: u32) -> Said
-    ensures { (id sender : Bytes) (words : Words) → told result ≡ entries_of (close n (unit_of unit id sender words)) }
+pub fn closing(unit: Unit, n: u32) -> Option<Entry>
+    ensures { (r : Parts) → told result ≡ entries_of (close n (unit_of unit r)) }
 {
     match unit {
-        Unit::None => Said::Nothing,
-        Unit::Takes(first, p) => Said::Verdict(Entry {
+        Unit::None => None,
+        Unit::Takes(first, p) => Some(Entry {
             first,
-            verdict: SHORT,
+            verdict: u32::from(Verdict::Short),
             at: n,
             meter: 0,
             day: p.day,
         }),
-        Unit::Waits(first, last, r) => Said::Verdict(Entry {
+        Unit::Waits(first, last, ready) => Some(Entry {
             first,
             verdict: LOADED,
             at: last,
-            meter: meter_number(r),
-            day: r.day,
+            meter: meter_number(ready),
+            day: ready.day,
         }),
-        Unit::Skips => Said::Nothing,
+        Unit::Skips => None,
     }
 }
 
 // Loads the read of a unit that ends, if it waited. A state that comes from no calls may name a cell that the registry has not: nothing is loaded then.
-pub fn load_waiting(unit: Unit, known: Known, words: &[u32], table: &mut [u32])
-    requires { HasRoom known table.old × (length words.now ≡ width) }
-    ensures { (reg id sender : Bytes) (n : ℕ) → Counted reg known → table.new ≡ load_all (rules_of reg) table.old (loads_of (close n (unit_of unit id sender words.now))) }
+pub fn load_waiting(unit: Unit, index: &Index<'_>, parts: &Parts, table: &mut [u32])
+    requires { HasRoom index.now table.old }
+    ensures { (n : ℕ) → table.new ≡ load_all (rules_of index.now) table.old (loads_of (close n (unit_of unit parts.now))) }
 {
-    match unit {
-        Unit::None => {}
-        Unit::Takes(_, _) => {}
-        Unit::Skips => {}
-        Unit::Waits(_, _, r) => {
-            let meter = r.meter as usize;
-            let day = r.offset as usize;
-            let channel = r.channel;
-            let c = channel_number(channel);
-            let days = known.window.days as usize;
-            if meter < known.count {
-                if day < days {
-                    let number = cell_number(known.count, days, meter, c, day);
-                    load(table, number, words);
-                }
-            }
+    let Unit::Waits(_, _, ready) = unit else {
+        return;
+    };
+    let at = Address {
+        meter: usize::from(ready.meter),
+        channel: channel_number(ready.channel),
+        day: usize::from(ready.offset),
+    };
+    let meters = index.meters();
+    let days = index.window().days as usize;
+    if at.meter < meters {
+        if at.day < days {
+            load(table, cell_number(meters, days, at), &parts.words);
         }
     }
 }
 
 // ---- THE LINE IS READ
 
+// A record that began at line `first` is refused at line n.
+fn refused(first: u32, fault: Fault, n: u32, day: u32) -> Stepped
+    ensures { result ≡ refused_at first fault n day }
+{
+    Stepped {
+        unit: Unit::Skips,
+        said: Some(Entry {
+            first,
+            verdict: u32::from(fault.verdict),
+            at: n,
+            meter: fault.meter,
+            day,
+        }),
+    }
+}
+
+// The unit behind a row at line n, which began at line `first`.
+fn unit_after(first: u32, n: u32, after: After) -> Unit
+    ensures { (r : Parts) (day : ℕ) → settles first n (row_says (Ok after) day r) ≡ quiet_step (unit_of result r) }
+{
+    match after {
+        After::GoesOn(p) => Unit::Takes(first, p),
+        After::Complete(ready) => Unit::Waits(first, n, ready),
+    }
+}
+
 // What a row at line n makes of its unit, which began at line `first`.
-pub fn settle(first: u32, n: u32, row: RowRead, day: u32) -> Stepped
-    ensures { (id sender : Bytes) (words : Words) → Reads (settles first n (row_says row day id sender words)) (unit_of result.unit id sender words) (told result.said) }
+pub fn settle(first: u32, n: u32, row: Result<After, Fault>, day: u32) -> Stepped
+    ensures { (r : Parts) → Reads (settles first n (row_says row day r)) (unit_of result.unit r) (told result.said) }
 {
     match row {
-        RowRead::Refused(verdict, meter) => Stepped {
-            unit: Unit::Skips,
-            said: Said::Verdict(Entry {
-                first,
-                verdict,
-                at: n,
-                meter,
-                day,
-            }),
-        },
-        RowRead::GoesOn(p) => Stepped {
-            unit: Unit::Takes(first, p),
-            said: Said::Nothing,
-        },
-        RowRead::Complete(r) => Stepped {
-            unit: Unit::Waits(first, n, r),
-            said: Said::Nothing,
-        },
+        Err(fault) => refused(first, fault, n, day),
+        Ok(after) => quiet(unit_after(first, n, after)),
     }
 }
 
@@ -174,58 +172,35 @@ pub fn settle(first: u32, n: u32, row: RowRead, day: u32) -> Stepped
 fn stray(n: u32) -> Stepped
     ensures { result ≡ stray_from n }
 {
-    Stepped {
-        unit: Unit::Skips,
-        said: Said::Verdict(Entry {
-            first: n,
-            verdict: STRAY,
-            at: n,
-            meter: 0,
-            day: 0,
-        }),
-    }
+    refused(n, Fault::from(Verdict::Stray), n, 0)
 }
 
 // A detail line behind a record that waits.
-fn surplus(first: u32, n: u32, r: Ready) -> Stepped
-    ensures { result ≡ surplus_at first n r }
+fn surplus(first: u32, n: u32, ready: Ready) -> Stepped
+    ensures { result ≡ surplus_at first n ready }
 {
-    Stepped {
-        unit: Unit::Skips,
-        said: Said::Verdict(Entry {
-            first,
-            verdict: SURPLUS,
-            at: n,
-            meter: meter_number(r),
-            day: r.day,
-        }),
-    }
+    let fault = Fault {
+        verdict: Verdict::Surplus,
+        meter: meter_number(ready),
+    };
+    refused(first, fault, n, ready.day)
 }
 
 // A line of which nothing is said.
 fn quiet(unit: Unit) -> Stepped
     ensures { result ≡ quietly unit }
 {
-    Stepped {
-        unit,
-        said: Said::Nothing,
-    }
+    Stepped { unit, said: None }
 }
 
 // An opener is row one of a new unit.
-fn open(
-    n: u32,
-    line: &[u8],
-    cr: bool,
-    id: &mut [u8],
-    sender: &mut [u8],
-    words: &mut [u32],
-) -> Stepped
-    requires { Sized id.old sender.old words.old }
-    ensures { Reads (settles n n (first_row (line_of line.now cr))) (unit_of result.unit id.new sender.new words.new) (told result.said) × Sized id.new sender.new words.new }
+fn open(n: u32, line: Line<'_>, parts: &mut Parts) -> Stepped
+    ensures { Reads (settles n n (first_row (line_of line.entry))) (unit_of result.unit parts.new) (told result.said) }
 {
-    let row = row_one(line, cr, id, sender, words);
-    settle(n, n, row, 0)
+    match row_one(line, parts) {
+        Err(verdict) => refused(n, Fault::from(verdict), n, 0),
+        Ok(p) => quiet(Unit::Takes(n, p)),
+    }
 }
 
 // A line that is neither empty nor an opener: a detail line, or another.
@@ -233,30 +208,23 @@ fn go_on(
     unit: Unit,
     n: u32,
     detail: bool,
-    line: &[u8],
-    cr: bool,
-    registry: &[u8],
-    meters: &[usize],
-    owners: &[usize],
-    known: Known,
-    id: &[u8],
-    sender: &mut [u8],
-    words: &mut [u32],
+    line: Line<'_>,
+    index: &Index<'_>,
+    hint: usize,
+    parts: &mut Parts,
 ) -> Stepped
-    requires { Indexed registry.now meters.now owners.now known × Sized id.now sender.old words.old × (details_in (unit_of unit id.now sender.old words.old) ≤ max_details) }
-    ensures { Reads (read_by (rules_of registry.now) (kind_if detail) n (line_of line.now cr) (unit_of unit id.now sender.old words.old)) (unit_of result.unit id.now sender.new words.new) (told result.said) × Sized id.now sender.new words.new }
+    requires { details_in (unit_of unit parts.old) ≤ max_details }
+    ensures { Reads (read_by (rules_of index.now) (kind_if detail) n (line_of line.entry) (unit_of unit parts.old)) (unit_of result.unit parts.new) (told result.said) }
 {
     match unit {
         Unit::None => stray(n),
         Unit::Takes(first, p) => {
-            let row = row_next(
-                p, line, cr, registry, meters, owners, known, id, sender, words,
-            );
+            let row = row_next(p, line, index, hint, parts);
             settle(first, n, row, p.day)
         }
-        Unit::Waits(first, _, r) => {
+        Unit::Waits(first, _, ready) => {
             if detail {
-                return surplus(first, n, r);
+                return surplus(first, n, ready);
             }
             stray(n)
         }
@@ -269,28 +237,19 @@ fn step(
     unit: Unit,
     kind: Kind,
     n: u32,
-    line: &[u8],
-    cr: bool,
-    registry: &[u8],
-    meters: &[usize],
-    owners: &[usize],
-    known: Known,
-    id: &mut [u8],
-    sender: &mut [u8],
-    words: &mut [u32],
+    line: Line<'_>,
+    index: &Index<'_>,
+    hint: usize,
+    parts: &mut Parts,
 ) -> Stepped
-    requires { Indexed registry.now meters.now owners.now known × Sized id.old sender.old words.old × (details_in (unit_of unit id.old sender.old words.old) ≤ max_details) }
-    ensures { Reads (read_by (rules_of registry.now) kind n (line_of line.now cr) (unit_of unit id.old sender.old words.old)) (unit_of result.unit id.new sender.new words.new) (told result.said) × Sized id.new sender.new words.new }
+    requires { details_in (unit_of unit parts.old) ≤ max_details }
+    ensures { Reads (read_by (rules_of index.now) kind n (line_of line.entry) (unit_of unit parts.old)) (unit_of result.unit parts.new) (told result.said) }
 {
     match kind {
         Kind::Empty => quiet(unit),
-        Kind::Opener => open(n, line, cr, id, sender, words),
-        Kind::Detail => go_on(
-            unit, n, true, line, cr, registry, meters, owners, known, id, sender, words,
-        ),
-        Kind::Other => go_on(
-            unit, n, false, line, cr, registry, meters, owners, known, id, sender, words,
-        ),
+        Kind::Opener => open(n, line, parts),
+        Kind::Detail => go_on(unit, n, true, line, index, hint, parts),
+        Kind::Other => go_on(unit, n, false, line, index, hint, parts),
     }
 }
 
@@ -299,25 +258,21 @@ pub fn judged(
     unit: Unit,
     all: bool,
     n: u32,
-    registry: &[u8],
-    meters: &[usize],
-    owners: &[usize],
-    known: Known,
-    id: &[u8],
-    sender: &[u8],
+    index: &Index<'_>,
+    hint: usize,
+    parts: &Parts,
 ) -> Stepped
-    requires { Indexed registry.now meters.now owners.now known × (length id.now ≡ esi_id_size) × (length sender.now ≡ owner_size) }
-    ensures { (words : Words) → Reads (judged_if all registry.now n (unit_of unit id.now sender.now words)) (unit_of result.unit id.now sender.now words) (told result.said) }
+    ensures { Reads (judged_if all index.now n (unit_of unit parts.now)) (unit_of result.unit parts.now) (told result.said) }
 {
     if !all {
         return quiet(unit);
     }
     match unit {
         Unit::None => quiet(unit),
-        Unit::Takes(first, p) => {
-            let row = check(p, registry, meters, owners, known, id, sender);
-            settle(first, n, row, p.day)
-        }
+        Unit::Takes(first, p) => match check(p, index, hint, parts) {
+            Err(fault) => refused(first, fault, n, p.day),
+            Ok(ready) => quiet(Unit::Waits(first, n, ready)),
+        },
         Unit::Waits(_, _, _) => quiet(unit),
         Unit::Skips => quiet(unit),
     }
@@ -327,32 +282,24 @@ pub fn judged(
 pub fn read_line(
     unit: Unit,
     n: u32,
-    line: &[u8],
-    cr: bool,
-    registry: &[u8],
-    meters: &[usize],
-    owners: &[usize],
-    known: Known,
-    id: &mut [u8],
-    sender: &mut [u8],
-    words: &mut [u32],
+    line: Line<'_>,
+    index: &Index<'_>,
+    hint: usize,
+    parts: &mut Parts,
     table: &mut [u32],
 ) -> LineRead
-    requires { Indexed registry.now meters.now owners.now known × Sized id.old sender.old words.old × HasRoom known table.old × (details_in (unit_of unit id.old sender.old words.old) ≤ max_details) }
-    ensures { Does (rules_of registry.now) (step_line (rules_of registry.now) n (line_of line.now cr) (unit_of unit id.old sender.old words.old)) (unit_of result.unit id.new sender.new words.new) (told_by result) table.old table.new × Sized id.new sender.new words.new }
+    requires room { HasRoom index.now table.old }
+    requires details { details_in (unit_of unit parts.old) ≤ max_details }
+    ensures { Does (rules_of index.now) (step_line (rules_of index.now) n (line_of line.entry) (unit_of unit parts.old)) (unit_of result.unit parts.new) (told_by result) table.old table.new }
 {
-    let kind = kind_of(line);
+    let kind = kind_of(line.body);
     let before = ended_by(kind, unit);
-    load_waiting(before, known, words, table);
+    load_waiting(before, index, parts, table);
     let first = closing(before, n);
-    let s = step(
-        unit, kind, n, line, cr, registry, meters, owners, known, id, sender, words,
-    );
-    let next = s.unit;
-    let second = s.said;
+    let next = step(unit, kind, n, line, index, hint, parts);
     LineRead {
-        unit: next,
+        unit: next.unit,
         first,
-        second,
+        second: next.said,
     }
 }

@@ -23,7 +23,7 @@ use Rattle.lines.specs.Line.{line_limit, cr_size, is_long}
 use Rattle.report.specs.Outcome.{passed, require}
 use Rattle.lines.specs.Row.{fields_of}
 use Rattle.report.specs.Verdict.{misfit}
-use Rattle.lines.specs.Answer.{line_of}
+use Rattle.lines.specs.Answer.{line_with}
 use Rattle.report.proofs.Passing.{then_passed, require-passed}
 use Rattle.headers.specs.Time.{time_size, date_text, clock_text, is_time, time_of, stamp_of}
 use Rattle.headers.specs.Two.{decimal_parts, is_decimal, up_to_digits, fits_form, fit_all, two_of, row_two}
@@ -52,7 +52,7 @@ cr-small false = omega arith
 
 -- the tests 11, 13 and 14 let a line pass that has its code and its fields
 pub usual_fields : (line code : Bytes) (fs : List Bytes) (cr : Bool) → length line < line_limit → cut line ≡ code ∷ fs
-    → fields_of code (length (code ∷ fs)) (line_of line cr) ≡ passed (code ∷ fs)
+    → fields_of code (length (code ∷ fs)) (line_with line cr) ≡ passed (code ∷ fs)
 unfolding fields_of is_long
 usual_fields line code fs cr short e =
     rw (le-ltb line_limit (length line + cr_size cr) (omega (arith, cr-small cr)), e, equals_refl code, eq-eqb (length (code ∷ fs)) (length (code ∷ fs)) refl)
@@ -62,18 +62,18 @@ usual_fields line code fs cr short e =
 unfoldable pub usual : Bytes
 usual = ascii "00000002,0,0,0,,0,,900,01,1,-1,0.0,0.0,CST"
 
-usual_passes : (cr : Bool) → passed tt ≡ row_two (line_of usual cr)
+usual_passes : (cr : Bool) → passed tt ≡ row_two (line_with usual cr)
 unfolding usual every equals is_empty cut number_from leading behind is_long fields_of decimal_parts is_decimal fits_form fit_all up_to_digits two_of row_two
 usual_passes true = refl
 usual_passes false = refl
 
-pub two_usual : (line : Bytes) (cr r : Bool) → r ≡ equals line usual → r ≡ true → passed tt ≡ row_two (line_of line cr)
+pub two_usual : (line : Bytes) (cr r : Bool) → r ≡ equals line usual → r ≡ true → passed tt ≡ row_two (line_with line cr)
 two_usual line cr r e h = rw (equals_path line usual (sym e ∙ h)) (usual_passes cr)
 
 -- ---- ROW THREE
 
 pub three_usual : (line : Bytes) (p q : Bool) → p ≡ starts_with (ascii "00000003,") line → (d : Bytes) → d ≡ drop 9 line → q ≡ is_descriptor d → (p && q) ≡ true
-    → (cr : Bool) → passed tt ≡ row_three (line_of line cr)
+    → (cr : Bool) → passed tt ≡ row_three (line_with line cr)
 unfolding row_three is_name every
 three_usual line p q ep d ed eq h cr =
     let named : is_descriptor (drop 9 line) ≡ true = rw (← ed) (sym eq ∙ and_right p q h) in
@@ -108,7 +108,7 @@ module _ (line : Bytes) (size : length line ≡ 25) (p q : Bool) (ep : p ≡ sta
       (cut_field (take 14 (drop 9 line)) _ _ (digits-no-comma (take 14 (drop 9 line)) (time_clean (take 14 (drop 9 line)) t stamp))
       (cut-alone (ascii "M") refl))
 
-  pub four_usual : (cr : Bool) → passed (record { date = t.date; clock = t.clock }) ≡ row_four (line_of line cr)
+  pub four_usual : (cr : Bool) → passed (record { date = t.date; clock = t.clock }) ≡ row_four (line_with line cr)
   unfolding row_four four_of stamp_of equals
   four_usual cr = sym (rw (usual_fields line (ascii "00000004") _ cr (omega arith) (ap cut four-made ∙ four-cut), ← stamp))
 
@@ -154,7 +154,7 @@ module _ (line a b c : Bytes) (made : line ≡ ascii "00000030,ATTRIBUTE_VALUE_P
       (cut_field (ascii "Receiver=183529049") _ _ refl
       (cut-alone (rep_name ++ c) (digits-no-comma c rep.digits)))))))
 
-  thirty-made : (cr : Bool) → length a ≡ 9 → length b ≡ 9 → length line < line_limit → passed b ≡ row_thirty (line_of line cr)
+  thirty-made : (cr : Bool) → length a ≡ 9 → length b ≡ 9 → length line < line_limit → passed b ≡ row_thirty (line_with line cr)
   unfolding row_thirty thirty_of is_thirty has_duns ends_thirty equals starts_with
   thirty-made cr la lb short =
       sym (rw (usual_fields line (ascii "00000030") _ cr short thirty-cut, nine-duns a la da, nine-duns b lb db, rep.right))
@@ -167,7 +167,7 @@ module _ (line : Bytes) (room : 85 ≤ length line) (p q u v w x y : Bool)
     (ev : v ≡ every is_digit (take 9 (drop 52 line)))
     (ew : w ≡ equals (take 24 (drop 61 line)) (ascii ",Receiver=183529049,REP="))
     (ex : x ≡ is_empty (take (length line - 85) (drop 85 line))) (ey : y ≡ is_duns (take (length line - 85) (drop 85 line))) where
-  pub thirty_usual : (p && q && u && v && w && (x || y)) ≡ true → (cr : Bool) → passed (take 9 (drop 52 line)) ≡ row_thirty (line_of line cr)
+  pub thirty_usual : (p && q && u && v && w && (x || y)) ≡ true → (cr : Bool) → passed (take 9 (drop 52 line)) ≡ row_thirty (line_with line cr)
   thirty_usual h cr =
       let t = and_each p (q ∷ u ∷ v ∷ w ∷ (x || y) ∷ []) h in
       let end : Rep (drop 85 line) = rep_right (drop 85 line) (rw (← left-whole line 85, ← ex, ← ey) (t 5)) in

@@ -23,7 +23,7 @@ use Rattle.text.proofs.Comma.{NoComma, digits-no-comma, alnum_no_comma, cut_fiel
 use Rattle.lines.specs.Line.{line_limit}
 use Rattle.report.specs.Outcome.{passed, refused}
 use Rattle.report.specs.Verdict.{misfit}
-use Rattle.lines.specs.Answer.{line_of}
+use Rattle.lines.specs.Answer.{line_with}
 use Rattle.headers.specs.Time.{date_size, clock_size, day_stop, is_time, time_of, is_below, stops_day, is_whole_day}
 use Rattle.headers.specs.One.{channel_of, day_of, one_of, row_one}
 use Rattle.headers.specs.declared.one.Channel.{Channel}
@@ -89,7 +89,7 @@ module _ (day stop : Bytes) (ld : length day ≡ date_size) (dd : every is_digit
         (cut_field (ascii "Y") _ _ refl
         (cut-alone (ascii "N") refl)))))))
 
-    one-made : (cr : Bool) → length line < line_limit → passed (record { esi_id = id; channel = k; day = number day }) ≡ row_one (line_of line cr)
+    one-made : (cr : Bool) → length line < line_limit → passed (record { esi_id = id; channel = k; day = number day }) ≡ row_one (line_with line cr)
     unfolding row_one one_of
     one-made cr short = sym (rw (usual_fields line (ascii "00000001") _ cr short one-cut, named, ← ek, day-made))
 
@@ -151,7 +151,7 @@ module _ (line : Bytes) (low : 46 ≤ length line) (p q v w x y : Bool)
 
     pub one_usual : (date : ℕ) → date ≡ number (day_at line) → (r : Bool) → r ≡ is_date date → r ≡ true
         → (k : Channel) → passed k ≡ channel_of (take 1 (drop 1 (tail_of line)))
-        → (cr : Bool) → passed (record { esi_id = id_of line; channel = k; day = date }) ≡ row_one (line_of line cr)
+        → (cr : Bool) → passed (record { esi_id = id_of line; channel = k; day = date }) ≡ row_one (line_with line cr)
     one_usual date ed r er hr k ek cr =
         rw ed
         (one-made (day_at line) stop (day-length line low) (sym ev ∙ each 4) (rw (← ed, ← er) hr) st line (id_of line) (take 1 (drop 1 (tail_of line)))

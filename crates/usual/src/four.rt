@@ -1,11 +1,12 @@
 // The usual row four.
 ghost use Rattle.std.specs.Prelude.{◌≡◌, Bool};
 ghost use Rattle.report.specs.Outcome.{says};
-ghost use Rattle.lines.specs.Answer.{line_of};
+ghost use Rattle.lines.specs.Answer.{line_of, line_with};
 ghost use Rattle.headers.specs.Four.{row_four};
 ghost use Rattle.usual.specs.Answer.{UsualFourSays};
 
 use headers::time::{Stamp, read_time};
+use lines::line::Line;
 use report::verdict::Verdict;
 use text::bytes::{begins, same};
 
@@ -22,7 +23,7 @@ const STAMP_END: usize = 23;
 
 // The stamp of a usual row four; any other line is for `headers`.
 fn usual_four(line: &[u8]) -> Option<Stamp>
-    ensures { (cr : Bool) → UsualFourSays result (line_of line.now cr) }
+    ensures { (cr : Bool) → UsualFourSays result (line_with line.now cr) }
 {
     if line.len() != USUAL_SIZE {
         return None;
@@ -37,11 +38,11 @@ fn usual_four(line: &[u8]) -> Option<Stamp>
     Some(Stamp::from(time))
 }
 
-pub fn read_four(line: &[u8], cr: bool) -> Result<Stamp, Verdict>
-    ensures { says result ≡ row_four (line_of line.now cr) }
+pub fn read_four(line: Line<'_>) -> Result<Stamp, Verdict>
+    ensures { says result ≡ row_four (line_of line.entry) }
 {
-    if let Some(stamp) = usual_four(line) {
+    if let Some(stamp) = usual_four(line.body) {
         return Ok(stamp);
     }
-    headers::four::read_four(line, cr)
+    headers::four::read_four(line)
 }

@@ -2,7 +2,7 @@
 // A reader here tells such a row by a few tests and takes its parts at once; any other line goes to the reader of that name in `headers`.
 // Both have the same promise, so that whoever reads a row may call either:
 //
-//     let one = usual::one::read_one(line, cr)?;     // as of headers::one::read_one
+//     let one = usual::one::read_one(line)?;     // as of headers::one::read_one
 //
 // For whoever changes it: a row's rule is its definition in headers/specs. `usual_..` owes it only where it takes a line (specs/Answer.antt), so
 // one that takes fewer lines is slower and still right; only the reader in headers gives verdicts. When a rule takes a new form that files will

@@ -1,12 +1,13 @@
 // The usual row one.
 ghost use Rattle.std.specs.Prelude.{◌≡◌, Bool};
-ghost use Rattle.lines.specs.Answer.{line_of};
+ghost use Rattle.lines.specs.Answer.{line_of, line_with};
 ghost use Rattle.headers.specs.One.{row_one};
 ghost use Rattle.headers.specs.Answer.{one_says};
 ghost use Rattle.usual.specs.Answer.{UsualOneSays};
 
 use calendar::is_date;
 use headers::one::{One, read_channel};
+use lines::line::Line;
 use report::verdict::Verdict;
 use text::bytes::{all_alnum, all_digits, begins, same};
 use text::numbers::number_of;
@@ -41,7 +42,7 @@ const USUAL_STOP: [u8; 10] = *b"235900,Y,N";
 
 // What a usual row one gives; any other line is for `headers`.
 fn usual_one(line: &[u8]) -> Option<One<'_>>
-    ensures { (cr : Bool) → UsualOneSays result (line_of line.now cr) }
+    ensures { (cr : Bool) → UsualOneSays result (line_with line.now cr) }
 {
     let n = line.len();
     if n < USUAL_LEAST {
@@ -75,11 +76,11 @@ fn usual_one(line: &[u8]) -> Option<One<'_>>
     Some(One { id, channel, day })
 }
 
-pub fn read_one(line: &[u8], cr: bool) -> Result<One<'_>, Verdict>
-    ensures { one_says result ≡ row_one (line_of line.now cr) }
+pub fn read_one<'a>(line: Line<'a>) -> Result<One<'a>, Verdict>
+    ensures { one_says result ≡ row_one (line_of line.entry) }
 {
-    if let Some(one) = usual_one(line) {
+    if let Some(one) = usual_one(line.body) {
         return Ok(one);
     }
-    headers::one::read_one(line, cr)
+    headers::one::read_one(line)
 }

@@ -1,10 +1,11 @@
 // The usual row thirty.
 ghost use Rattle.std.specs.Prelude.{◌≡◌, Bool};
-ghost use Rattle.lines.specs.Answer.{line_of};
+ghost use Rattle.lines.specs.Answer.{line_of, line_with};
 ghost use Rattle.headers.specs.Thirty.{row_thirty};
 ghost use Rattle.headers.specs.Answer.{thirty_says};
 ghost use Rattle.usual.specs.Answer.{UsualThirtySays};
 
+use lines::line::Line;
 use report::verdict::Verdict;
 use text::bytes::{all_digits, begins, is_empty, same};
 use text::names::is_duns;
@@ -28,7 +29,7 @@ const REP_AT: usize = 85;
 
 // The Sender's number of a usual row thirty, which passes without a walk along its fields; any other line is for `headers`.
 fn usual_thirty(line: &[u8]) -> Option<&[u8]>
-    ensures { (cr : Bool) → UsualThirtySays result (line_of line.now cr) }
+    ensures { (cr : Bool) → UsualThirtySays result (line_with line.now cr) }
 {
     if line.len() < REP_AT {
         return None;
@@ -44,11 +45,11 @@ fn usual_thirty(line: &[u8]) -> Option<&[u8]>
     if shaped { Some(sender) } else { None }
 }
 
-pub fn read_thirty(line: &[u8], cr: bool) -> Result<&[u8], Verdict>
-    ensures { thirty_says result ≡ row_thirty (line_of line.now cr) }
+pub fn read_thirty<'a>(line: Line<'a>) -> Result<&'a [u8], Verdict>
+    ensures { thirty_says result ≡ row_thirty (line_of line.entry) }
 {
-    if let Some(sender) = usual_thirty(line) {
+    if let Some(sender) = usual_thirty(line.body) {
         return Ok(sender);
     }
-    headers::thirty::read_thirty(line, cr)
+    headers::thirty::read_thirty(line)
 }

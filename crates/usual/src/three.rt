@@ -1,9 +1,10 @@
 // The usual row three.
 ghost use Rattle.std.specs.Prelude.{◌≡◌, Bool, true};
 ghost use Rattle.report.specs.Outcome.{passed, says};
-ghost use Rattle.lines.specs.Answer.{line_of};
+ghost use Rattle.lines.specs.Answer.{line_of, line_with};
 ghost use Rattle.headers.specs.Three.{row_three};
 
+use lines::line::Line;
 use report::verdict::Verdict;
 use text::bytes::begins;
 use text::fields::behind;
@@ -16,16 +17,16 @@ const DESCRIPTOR_AT: usize = 9;
 
 // Whether a line is a usual row three, which passes without a walk along its fields.
 fn usual_three(line: &[u8]) -> bool
-    ensures { result ≡ true → (cr : Bool) → passed tt ≡ row_three (line_of line.now cr) }
+    ensures { result ≡ true → (cr : Bool) → passed tt ≡ row_three (line_with line.now cr) }
 {
     begins(line, &USUAL_HEAD) & is_descriptor(behind(line, DESCRIPTOR_AT))
 }
 
-pub fn read_three(line: &[u8], cr: bool) -> Result<(), Verdict>
-    ensures { says result ≡ row_three (line_of line.now cr) }
+pub fn read_three(line: Line<'_>) -> Result<(), Verdict>
+    ensures { says result ≡ row_three (line_of line.entry) }
 {
-    if usual_three(line) {
+    if usual_three(line.body) {
         return Ok(());
     }
-    headers::three::read_three(line, cr)
+    headers::three::read_three(line)
 }

@@ -7,7 +7,7 @@ use Prim.Native.Nat.{ℕ, zero, suc, ◌+◌, ◌*◌, ◌/◌, ◌<◌, ◌≤�
 use native.Mathlib.Nat.{add-zero}
 use native.Mathlib.Numerals.{add-one}
 use native.Mathlib.Omega.{arith}
-use lib.ListN.{length, get_or, drop, take, length-append, length-drop, take-append-drop}
+use lib.ListN.{length, get_or, length-append, length-drop, take-append-drop}
 use lib.Dec.{eqb}
 use lib.Seq.{get_or-drop}
 use borrow.Author.Tests.{leb-true, eqb-true, eqb-false}
@@ -96,17 +96,9 @@ module _ (before out : Bytes) (at end k : ℕ) (w : Words) (a b c d : Interval)
       → Put before at (rows (detail_lines (k + 1) w)) new next
   row_again h p = rw (details-next k w) (put_both h so_far (rw (ea, eb, ec, ed) at p))
 
-pub all-put : {before out : Bytes} {at end : ℕ} (w : Words) (k n : ℕ) → k ≤ n → n ≤ k → Put before at (rows (detail_lines k w)) out end
-    → Put before at (rows (detail_lines n w)) out end
-all-put w k n h g p = let e : k ≡ n = omega arith in rw e at p
-
 pub none-put : (bytes : Bytes) (at : ℕ) (w : Words) → Put bytes at (rows (detail_lines 0 w)) bytes at
 unfolding put_at detail_lines rows
-none-put bytes at w = record {
-  behind = omega arith;
-  bytes =
-      sym (ap (λ (s : Bytes). s ++ drop (at + 0) bytes) (append-nil (take at bytes)) ∙ ap (λ (k : ℕ). take at bytes ++ drop k bytes) (add-zero at) ∙ take-append-drop at bytes);
-}
+none-put bytes at w = record { behind = omega arith; bytes = sym (simp (append-nil, add-zero, take-append-drop)) }
 
 details-most : (n : ℕ) (w : Words) → length (rows (detail_lines n w)) ≤ n * 66
 unfolding detail_lines rows

@@ -1,15 +1,14 @@
 -- The call Write. Document 01, "Calls": it puts a sound cell out from place 0 as a record, returns its length and changes no later byte.
--- "What a call returns": 2, 3, 6 to 10, tested in this order; a refusal returns length 0 and changes no byte.
+-- "What a call returns": 2, 3, 6 to 10, tested in this order; a refusal changes no byte.
 -- Assumes nothing.
 use Rattle.std.specs.Prelude.{◌++◌, not, ℕ, ltb, length, drop}
 use Rattle.text.specs.Byte.{Bytes}
 use Rattle.text.specs.Identifier.{is_descriptor}
 use Rattle.report.specs.Outcome.{Outcome, passed, refused, require, ◌>>=◌, ◌>>◌}
 use Rattle.cell.specs.Layout.{Words}
-use Rattle.report.specs.Refusal.{done, bad_descriptor, short_output}
+use Rattle.report.specs.Refusal.{bad_descriptor, short_output}
 use Rattle.cells.specs.Sound.{sound_cell}
 use Rattle.writer.specs.Record.{cell_text}
-use Rattle.writer.specs.declared.Written.{Written}
 
 -- the record of a sound cell, or the refusal
 unfoldable pub written_record : Bytes → Words → ℕ → ℕ → ℕ → Bytes → Outcome Bytes
@@ -25,9 +24,11 @@ fitting output found = do
   require (not (ltb (length output) (length text))) short_output
   passed text
 
-abbrev pub answer : Outcome Bytes → Written
-answer (passed text) = record { number = done; length = length text }
-answer (refused number) = record { number = number; length = 0 }
+-- what the call answers: the record's length, or the refusal
+abbrev pub length_of : Outcome Bytes → Outcome ℕ
+length_of found = do
+  text ← found
+  passed (length text)
 
 -- the output after the call
 abbrev pub output_with : Bytes → Outcome Bytes → Bytes

@@ -1,8 +1,9 @@
 -- `cell::begin` meets its contract.
 -- Assumes nothing.
-use Rattle.cell.specs.Read.{begun}
+use borrow.Author.Rules.{rules}
+use Rattle.cell.specs.Read.{cleared, begun}
 use Rattle.cell.proofs.begin.Goals as goal
 
 pub returns : goal.returns
-unfolding begun
-returns c = rw (← c.clear.ensures)
+unfolding begun cleared
+returns c = search rules

@@ -1,24 +1,28 @@
 -- `cells::find_cell` meets its contract.
 -- Assumes nothing.
-use native.Mathlib.Omega.{arith}
-use mathlib.Core.Path.{ap}
-use Rattle.cells.proofs.Found.{cell-refused, cell-meter, cell-channel, cell-day, cells_fit, cell-found}
+use mathlib.Core.Path.{◌∙◌}
+use Rattle.report.specs.Refusal.{refusal_number}
+use Rattle.report.proofs.Passing.{next-exit}
+use Rattle.cells.specs.Sound.{cell_for}
+use Rattle.cells.proofs.Found.{index-sizes, address-tested, words-within}
 use Rattle.cells.proofs.find_cell.Goals as goal
 
-pub returns-then-number-ne-DONE : goal.returns-then-number-ne-DONE
-returns-then-number-ne-DONE c = cell-refused _ _ _ _ _ _ c.requires.rules _ _ _ c.requires.counted (ap (λ w. w.days) c.requires.windowed) c.for_table-number.ensures c.if-number-ne-DONE.true
+pub returns-in_err-for_table : goal.returns-in_err-for_table
+unfolding cell_for
+returns-in_err-for_table c = next-exit refusal_number _ _ c.from_residual.ensures.1 _ ∙ rw (← c.in_err-for_table.ensures)
 
-pub returns-then-meters-m : goal.returns-then-meters-m
-returns-then-meters-m c = cell-meter _ _ _ _ _ _ c.requires.rules _ _ _ c.requires.counted (ap (λ w. w.days) c.requires.windowed) c.for_table-number.ensures c.if-number-ne-DONE.false c.if-meters-m.true
+pub returns-in_err-require : goal.returns-in_err-require
+unfolding cell_for
+returns-in_err-require c =
+    next-exit refusal_number _ _ c.from_residual-in_err-require.ensures.1 _
+    ∙ rw (← c.in_ok-for_table.ensures, address-tested _ c.window-days.ensures.1 _ _ c.meters-meters.ensures c.window-days.ensures.0 c.args.at.meter c.args.at.channel c.args.at.day, ← c.in_err-require.ensures)
 
-pub returns-then-c-ge-CHANNELS : goal.returns-then-c-ge-CHANNELS
-returns-then-c-ge-CHANNELS c = cell-channel _ _ _ _ _ _ c.requires.rules _ _ _ c.requires.counted (ap (λ w. w.days) c.requires.windowed) c.for_table-number.ensures c.if-number-ne-DONE.false c.if-c-ge-CHANNELS.true
+pub cell_number-requires-clause-sizes : goal.cell_number-requires-clause-sizes
+cell_number-requires-clause-sizes c = index-sizes _ c.window-days.ensures.1 _ _ c.meters-meters.ensures c.window-days.ensures.0
 
-pub returns-then-days-d : goal.returns-then-days-d
-returns-then-days-d c = cell-day _ _ _ _ _ _ c.requires.rules _ _ _ c.requires.counted (ap (λ w. w.days) c.requires.windowed) c.for_table-number.ensures c.if-number-ne-DONE.false c.if-days-d.true
-
-pub overflow_mul-result : goal.overflow_mul-result
-overflow_mul-result c = omega (arith, c.cell_number.ensures.1, c.well_formed, cells_fit c.args.registry.now c.args.table.now c.args.m c.args.c c.args.d _ c.requires.rules _ _ _ c.requires.counted (ap (λ w. w.days) c.requires.windowed) c.for_table-number.ensures c.if-number-ne-DONE.false)
+pub cell_at-requires : goal.cell_at-requires
+cell_at-requires c = words-within _ c.window-days.ensures.1 _ _ c.meters-meters.ensures c.window-days.ensures.0 _ c.in_ok-for_table.ensures _ c.cell_number.ensures.1
 
 pub returns : goal.returns
-returns c = cell-found _ _ _ _ _ _ c.requires.rules _ _ _ c.requires.counted (ap (λ w. w.days) c.requires.windowed) c.for_table-number.ensures c.if-number-ne-DONE.false c.if-meters-m.false c.if-c-ge-CHANNELS.false c.if-days-d.false _ c.cell_number.ensures.0 c.cell_number.ensures.1
+unfolding cell_for
+returns c = rw (c.cell_at.ensures, ← c.in_ok-for_table.ensures, address-tested _ c.window-days.ensures.1 _ _ c.meters-meters.ensures c.window-days.ensures.0 c.args.at.meter c.args.at.channel c.args.at.day, ← c.in_ok-require.ensures, c.cell_number.ensures.0, c.meters-meters.ensures, c.window-days.ensures.0)

@@ -1,23 +1,20 @@
 -- `cells::find_held` meets its contract.
 -- Assumes nothing.
-use native.Mathlib.Omega.{arith}
-use Rattle.cells.proofs.Found.{held-refused, held_not, held_so}
+use mathlib.Core.Path.{◌∙◌}
+use Rattle.report.specs.Refusal.{refusal_number}
+use Rattle.report.proofs.Passing.{next-exit}
+use Rattle.cells.specs.Sound.{held_cell}
 use Rattle.cells.proofs.find_held.Goals as goal
 
-pub overflow_add-end : goal.overflow_add-end
-overflow_add-end c = omega (arith, c.find_cell.ensures.within _ c.in-At.is)
+pub returns-in_err-words : goal.returns-in_err-words
+unfolding held_cell
+returns-in_err-words c = next-exit refusal_number _ _ c.from_residual.ensures.1 _ ∙ rw (← c.in_err-words.ensures)
 
-pub offset_bounds-table-start : goal.offset_bounds-table-start
-offset_bounds-table-start c = omega (arith, c.find_cell.ensures.within _ c.in-At.is, c.well_formed)
+pub returns-in_err-require : goal.returns-in_err-require
+unfolding held_cell
+returns-in_err-require c =
+    next-exit refusal_number _ _ c.from_residual-in_err-require.ensures.1 _ ∙ rw (← c.in_ok-words.ensures, ← c.holds_none.ensures, ← c.in_err-require.ensures)
 
-pub slice_bounds-holds_none-end : goal.slice_bounds-holds_none-end
-slice_bounds-holds_none-end c = omega (arith, c.find_cell.ensures.within _ c.in-At.is)
-
-pub returns-then-holds_none : goal.returns-then-holds_none
-returns-then-holds_none c = held_not _ _ _ _ _ _ _ c.in-At.is c.find_cell.ensures c.holds_none.result c.holds_none.ensures c.if-holds_none.true
-
-pub returns-in-Refused : goal.returns-in-Refused
-returns-in-Refused c = held-refused _ _ _ _ _ _ _ c.in-Refused.is c.find_cell.ensures
-
-pub returns-else-holds_none : goal.returns-else-holds_none
-returns-else-holds_none c = held_so _ _ _ _ _ _ _ c.in-At.is c.find_cell.ensures c.holds_none.result c.holds_none.ensures c.if-holds_none.false
+pub returns : goal.returns
+unfolding held_cell
+returns c = rw (← c.in_ok-words.ensures, ← c.holds_none.ensures, ← c.in_ok-require.ensures)

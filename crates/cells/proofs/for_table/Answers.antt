@@ -1,13 +1,10 @@
 -- `cells::for_table` meets its contract.
 -- Assumes nothing.
-use Rattle.cells.proofs.Found.{table_registry, table-short, table_fits}
+use Rattle.cells.proofs.Found.{index-sizes, table-tested}
 use Rattle.cells.proofs.for_table.Goals as goal
 
-pub returns-then-not-legal : goal.returns-then-not-legal
-returns-then-not-legal c = table_registry _ _ _ _ c.if-not-legal.true
-
-pub returns-then-size-cell_count : goal.returns-then-size-cell_count
-returns-then-size-cell_count c = table-short _ _ _ _ c.if-not-legal.false _ c.cell_count.ensures.0 c.if-size-cell_count.true
+pub cell_count-cells-requires : goal.cell_count-cells-requires
+cell_count-cells-requires c = index-sizes _ c.window.ensures.1 _ _ c.meters.ensures c.window.ensures.0
 
 pub returns : goal.returns
-returns c = table_fits _ _ _ _ c.if-not-legal.false _ c.cell_count.ensures.0 c.if-size-cell_count.false
+returns c = rw (table-tested _ c.window.ensures.1 _ _ c.meters.ensures c.window.ensures.0 _ c.args.size c.cell_count-cells.ensures.0) c.require.ensures

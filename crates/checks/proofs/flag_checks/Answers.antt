@@ -1,17 +1,20 @@
 -- `checks::flag_checks` meets its contract.
 -- Assumes nothing.
-use borrow.Author.Rules.{rules}
-use Rattle.checks.proofs.Judging.{flag_ercot, flag_interval, flag_idr, flag_right}
+use mathlib.Core.Path.{◌∙◌}
+use Rattle.report.proofs.Passing.{says-exit}
+use Rattle.checks.specs.Check.{flag_checks}
 use Rattle.checks.proofs.flag_checks.Goals as goal
 
-pub returns-then-has_flag : goal.returns-then-has_flag
-returns-then-has_flag c = search (flag_ercot, rules)
+pub returns-in_err-require : goal.returns-in_err-require
+unfolding flag_checks
+returns-in_err-require c = says-exit _ _ c.from_residual.ensures.1 ∙ rw (← c.has_flag.ensures, ← c.in_err-require.ensures)
 
-pub returns-then-not-has_flag : goal.returns-then-not-has_flag
-returns-then-not-has_flag c = search (flag_interval, rules)
-
-pub returns-then-not-has_flag-2 : goal.returns-then-not-has_flag-2
-returns-then-not-has_flag-2 c = search (flag_idr, rules)
+pub returns-in_err-require-2 : goal.returns-in_err-require-2
+unfolding flag_checks
+returns-in_err-require-2 c =
+    says-exit _ _ c.from_residual-in_err-require-2.ensures.1
+    ∙ rw (← c.has_flag.ensures, ← c.in_ok-require.ensures, ← c.has_flag-2.ensures, ← c.in_err-require-2.ensures)
 
 pub returns : goal.returns
-returns c = search (flag_right, rules)
+unfolding flag_checks
+returns c = rw (← c.has_flag.ensures, ← c.in_ok-require.ensures, ← c.has_flag-2.ensures, ← c.in_ok-require-2.ensures, ← c.has_flag-3.ensures) c.require-3.ensures

@@ -1,20 +1,33 @@
--- `loader::feed` meets its contract: each step of its loop is a law of a feed's batches.
+-- `loader::feed` meets its contract.
 -- Assumes nothing.
-use mathlib.Core.Path.{sym, ◌∙◌}
-use Rattle.loader.proofs.Batching.{begins, goes, puts, steps, stops}
+use mathlib.Core.Path.{refl}
+use native.Mathlib.Omega.{arith}
+use borrow.Author.Rules.{rules}
+use Rattle.plain.specs.Call.{feed}
+use Rattle.state.proofs.Refusals.{few_bytes}
+use Rattle.loader.proofs.Batching.{refusal-keeps, begins, few, fits, steps, stops}
 use Rattle.loader.proofs.feed.Goals as goal
 
-pub loop-table-init : goal.loop-table-init
-loop-table-init c = begins _ _ _ _ _ _ c.start-b.ensures
+pub returns-in_err-index : goal.returns-in_err-index
+returns-in_err-index g c = refusal-keeps _ _ _ _ _ _ _ _ _ c.from_residual.ensures.1 (rw (← c.room.ensures) c.in_err-index.ensures.number)
 
-pub next_batch-b-requires : goal.next_batch-b-requires
-next_batch-b-requires c = goes _ _ c.args.table.now c.args.report.now _ _ _ _ c.loop-table.auto.table c.loop-table.invariant (sym c.going.ensures ∙ c.loop-table-test.true)
+pub overflow_add-state : goal.overflow_add-state
+overflow_add-state g c = omega (arith, few_bytes _ _ _ _ (feed c.args.piece.now) c.in_ok-index.ensures.number)
 
-pub put_batch-requires : goal.put_batch-requires
-put_batch-requires c = puts _ _ c.args.table.now c.args.report.now _ _ _ _ _ _ c.loop-table.auto.report c.loop-table.invariant (sym c.going.ensures ∙ c.loop-table-test.true) c.next_batch-b.ensures
+pub loop-at-init : goal.loop-at-init
+loop-at-init g c = begins _ _ _ _ _ _ _ (rw (c.in_ok-index.ensures.index, ← c.room.ensures) c.in_ok-index.ensures.number) c.admit.ensures.kept _ refl
 
-pub loop-table-preserved : goal.loop-table-preserved
-loop-table-preserved c = steps _ _ _ _ _ _ _ _ _ _ _ c.loop-table.invariant (sym c.going.ensures ∙ c.loop-table-test.true) c.next_batch-b.ensures c.put_batch.ensures
+pub put-requires-clause-fits : goal.put-requires-clause-fits
+put-requires-clause-fits g c = fits _ _ _ _ _ _ _ _ _ _ _ _ c.loop-at.invariant _ (record { scan = c.next_batch-batch.new.scan; taken = c.loop-at.state.taken }) _ c.next_batch-batch.ensures
+
+pub overflow_add-count : goal.overflow_add-count
+overflow_add-count g c = omega (arith, few _ _ _ _ _ _ _ _ _ _ _ _ c.loop-at.invariant _ (record { scan = c.next_batch-batch.new.scan; taken = c.loop-at.state.taken }) _ c.next_batch-batch.ensures)
+
+pub loop-at-preserved : goal.loop-at-preserved
+loop-at-preserved g c =
+    steps _ _ _ _ _ _ _ _ _ _ _ _ c.loop-at.invariant _ _ _ c.next_batch-batch.ensures _ c.put.ensures.entered c.put.ensures.behind refl (search rules)
 
 pub returns : goal.returns
-returns c = rw c.answer.ensures (stops _ _ _ _ _ _ _ _ c.loop-table.invariant (sym c.going.ensures ∙ c.loop-table-test.false))
+returns g c =
+    rw (← c.in_ok-index.ensures.index)
+    (stops _ _ _ _ _ _ _ _ _ _ _ _ c.loop-at.invariant (omega (arith, c.loop-at-test.false)) (search rules))

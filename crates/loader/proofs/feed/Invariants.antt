@@ -1,11 +1,12 @@
 -- What the loop of `loader::feed` keeps, and why it ends.
 use Prim.Native.Nat.{◌-◌}
 use lib.ListN.{length}
-use Rattle.loader.proofs.Batching.{Inv}
+use Rattle.loader.proofs.Batching.{Comes}
 use Rattle.loader.proofs.feed.Given as goal
 
-abbrev pub invariant-loop-table : goal.invariant-loop-table
-invariant-loop-table l = Inv l.piece l.registry l.initial.table l.initial.report l.fn.state l.table l.report l.b
+abbrev pub invariant-loop-at : goal.invariant-loop-at
+invariant-loop-at g l =
+    Comes g.T.Slot.entries g.T.Slot.behind l.piece l.index l.initial.table l.initial.report l.fn.state l.table l.report l.state l.at l.count
 
-abbrev pub decreases-loop-table : goal.decreases-loop-table
-decreases-loop-table l = length l.piece - l.b.at
+abbrev pub decreases-loop-at : goal.decreases-loop-at
+decreases-loop-at g l = length l.piece - l.at

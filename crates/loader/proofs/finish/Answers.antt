@@ -1,10 +1,23 @@
 -- `loader::finish` meets its contract.
 -- Assumes nothing.
-use Rattle.loader.proofs.Batching.{end-puts, ends}
+use borrow.Author.Rules.{rules}
+use Rattle.loader.proofs.Batching.{refusal-keeps, end-holds, end-room, end-fits, ends}
 use Rattle.loader.proofs.finish.Goals as goal
 
-pub put_batch-requires : goal.put_batch-requires
-put_batch-requires c = end-puts _ _ c.args.report.now _ _ _ c.last_batch-b.ensures
+pub returns-in_err-index : goal.returns-in_err-index
+returns-in_err-index g c = refusal-keeps _ _ _ _ _ _ _ _ _ c.from_residual.ensures.1 (rw (← c.room.ensures) c.in_err-index.ensures.number)
+
+pub end_file-batch-requires-clause-room : goal.end_file-batch-requires-clause-room
+end_file-batch-requires-clause-room g c = end-room g.T.Slot.entries g.T.Slot.behind _ _ c.args.report.now c.args.state.now (rw (c.in_ok-index.ensures.index, ← c.room.ensures) c.in_ok-index.ensures.number)
+
+pub end_file-batch-requires-clause-holds : goal.end_file-batch-requires-clause-holds
+end_file-batch-requires-clause-holds g c = end-holds g.T.Slot.entries g.T.Slot.behind c.in_ok-index.index c.args.table.now c.args.report.now c.args.state.now (rw (c.in_ok-index.ensures.index, ← c.room.ensures) c.in_ok-index.ensures.number) c.admit.ensures.kept
+
+pub put-requires-clause-fits : goal.put-requires-clause-fits
+put-requires-clause-fits g c = end-fits g.T.Slot.entries g.T.Slot.behind c.in_ok-index.index c.args.table.now c.args.report.now c.args.state.now (rw (c.in_ok-index.ensures.index, ← c.room.ensures) c.in_ok-index.ensures.number) _ _ c.end_file-batch.ensures
 
 pub returns : goal.returns
-returns c = rw c.answer.ensures (ends _ _ _ _ _ _ _ c.last_batch-b.ensures c.put_batch.ensures)
+returns g c =
+    rw (← c.in_ok-index.ensures.index)
+    (ends g.T.Slot.entries g.T.Slot.behind c.in_ok-index.index c.args.table.now c.args.report.now c.args.state.now (rw (c.in_ok-index.ensures.index, ← c.room.ensures) c.in_ok-index.ensures.number) _ _ c.end_file-batch.ensures
+    _ _ c.put.ensures.entered c.put.ensures.behind c.fresh.ensures (search rules))

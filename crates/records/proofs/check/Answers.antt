@@ -1,19 +1,23 @@
 -- `records::check` meets its contract.
 -- Assumes nothing.
-use mathlib.Core.Path.{ap, sym, ◌∙◌}
+use mathlib.Core.Path.{sym}
 use native.Mathlib.Omega.{arith}
+use Rattle.registry.proofs.Laws.{meters-most, window-most}
 use Rattle.checks.proofs.Passed.{judged-within}
-use Rattle.records.proofs.Steps.{check_refused, check_passed}
+use Rattle.plain.specs.Rows.{checked}
+use Rattle.report.proofs.Passing.{is-error}
 use Rattle.records.proofs.check.Goals as goal
 
+pub returns-in_err-cleared : goal.returns-in_err-cleared
+unfolding checked
+returns-in_err-cleared c = rw (is-error _ _ c.from_residual.ensures.1, ← c.in_err-cleared.ensures)
+
 pub overflow_cast-result : goal.overflow_cast-result
-overflow_cast-result c = omega (arith, (judged-within _ _ _ _ _ _ (sym c.judge.ensures ∙ c.in-Passed.is)).0, c.requires.0.meter_places.counted, c.requires.0.most)
+overflow_cast-result c = omega (arith, (judged-within _ _ _ _ _ _ (sym c.in_ok-cleared.ensures)).0, meters-most c.args.index.now)
 
-pub overflow_cast-result-in-Passed : goal.overflow_cast-result-in-Passed
-overflow_cast-result-in-Passed c = omega (arith, (judged-within _ _ _ _ _ _ (sym c.judge.ensures ∙ c.in-Passed.is)).1, ap (λ w. w.days) c.requires.0.windowed, c.requires.0.short)
+pub overflow_cast-result-2 : goal.overflow_cast-result-2
+overflow_cast-result-2 c = omega (arith, (judged-within _ _ _ _ _ _ (sym c.in_ok-cleared.ensures)).1, window-most c.args.index.now)
 
-pub returns-in-Refused : goal.returns-in-Refused
-returns-in-Refused c = λ words. check_refused _ _ _ c.args.p words _ c.judge.ensures _ _ c.in-Refused.is
-
-pub returns-in-Passed : goal.returns-in-Passed
-returns-in-Passed c = λ words. check_passed _ _ _ c.args.p words _ c.judge.ensures _ _ c.in-Passed.is
+pub returns : goal.returns
+unfolding checked
+returns c = rw (← c.in_ok-cleared.ensures)

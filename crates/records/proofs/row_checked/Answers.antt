@@ -1,8 +1,8 @@
 -- `records::row_checked` meets its contract.
 -- Assumes nothing.
-use mathlib.Core.Path.{refl}
-use Rattle.records.proofs.Steps.{checked-passed}
+use Rattle.plain.specs.Rows.{with_row}
 use Rattle.records.proofs.row_checked.Goals as goal
 
-pub returns-in-Ok : goal.returns-in-Ok
-returns-in-Ok c = λ id sender words. checked-passed c.args.p _ (rw c.in-Ok.is refl) id sender words _ c.counted.ensures
+pub returns : goal.returns
+unfolding with_row
+returns c = λ r. rw (c.in_ok-passes.was, c.counted.ensures)

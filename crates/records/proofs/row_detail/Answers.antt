@@ -1,16 +1,23 @@
 -- `records::row_detail` meets its contract.
 -- Assumes nothing.
-use native.Mathlib.Omega.{arith}
+use mathlib.Core.Path.{sym, ◌∙◌}
+use borrow.Author.Tests.{ltb-true, ltb-false}
+use Rattle.report.proofs.Passing.{is-error, test-passed, test-refused}
+use Rattle.plain.specs.Rows.{with_row}
 use Rattle.records.proofs.Steps.{detail_refused, detail_past, detail_in}
 use Rattle.records.proofs.row_detail.Goals as goal
 
-pub returns-then-k-ge-MAX_DETAILS : goal.returns-then-k-ge-MAX_DETAILS
-returns-then-k-ge-MAX_DETAILS c =
-    (rw c.from-then-k-ge-MAX_DETAILS.ensures (detail_past _ _ _ c.args.p _ _ c.requires.3 _ c.in-Ok.ensures c.if-k-ge-MAX_DETAILS.true), c.requires.1.words_sized)
+pub returns-in_err-row : goal.returns-in_err-row
+returns-in_err-row c = rw (is-error _ _ c.from_residual.ensures.1) (detail_refused _ c.args.p _ _ c.requires.1 _ (sym c.in_err-row.ensures))
 
-pub returns-in-Err : goal.returns-in-Err
-returns-in-Err c = (rw c.from.ensures (detail_refused _ _ _ c.args.p _ _ c.requires.3 _ c.in-Err.ensures), c.requires.1.words_sized)
+pub returns-in_err-require : goal.returns-in_err-require
+returns-in_err-require c =
+    let p = test-refused _ _ _ c.in_err-require.ensures in
+    rw (is-error _ _ c.from_residual-in_err-require.ensures.1, p.1)
+    (detail_past _ c.args.p _ _ c.requires.1 _ (sym c.in_ok-row.ensures) (ltb-false _ _ p.0))
 
-pub returns-else-k-ge-MAX_DETAILS : goal.returns-else-k-ge-MAX_DETAILS
-returns-else-k-ge-MAX_DETAILS c =
-    (detail_in _ _ _ c.args.p _ _ c.requires.3 _ c.in-Ok.ensures (omega arith) _ c.take_detail.ensures.0, c.take_detail.ensures.1)
+pub returns : goal.returns
+unfolding with_row
+returns c =
+    let m = ltb-true _ _ (test-passed _ _ c.in_ok-require.ensures) in
+    c.after_detail.ensures ∙ rw c.put_intervals.ensures (detail_in _ c.args.p _ _ c.requires.1 _ (sym c.in_ok-row.ensures) m)

@@ -1,13 +1,20 @@
 -- `records::row_one` meets its contract.
 -- Assumes nothing.
-use Rattle.records.proofs.Steps.{one-real, one-refused, one-fits, one-begun}
+use mathlib.Core.Path.{sym}
+use Rattle.plain.specs.Rows.{first_row}
+use Rattle.report.proofs.Passing.{is-error}
+use Rattle.records.proofs.Steps.{one-begun, one-fits, one-real}
 use Rattle.records.proofs.row_one.Goals as goal
 
-pub begin_record-requires : goal.begin_record-requires
-begin_record-requires c = (c.requires, one-fits _ _ _ _ c.in-Ok.ensures, one-real _ _ _ _ c.in-Ok.ensures)
+pub returns-in_err-one : goal.returns-in_err-one
+unfolding first_row
+returns-in_err-one c = rw (is-error _ _ c.from_residual.ensures.1, ← c.in_err-one.ensures)
 
-pub returns-in-Err : goal.returns-in-Err
-returns-in-Err c = (rw c.from.ensures (one-refused _ _ c.in-Err.ensures), c.requires)
+pub begin_record-requires-clause-fits : goal.begin_record-requires-clause-fits
+begin_record-requires-clause-fits c = one-fits _ _ (sym c.in_ok-one.ensures)
 
-pub returns-in-Ok : goal.returns-in-Ok
-returns-in-Ok c = (one-begun _ _ _ _ c.in-Ok.ensures _ c.begin_record.ensures.0, c.begin_record.ensures.1)
+pub begin_record-requires-clause-real : goal.begin_record-requires-clause-real
+begin_record-requires-clause-real c = one-real _ _ (sym c.in_ok-one.ensures)
+
+pub returns : goal.returns
+returns c = one-begun _ _ (sym c.in_ok-one.ensures) _ c.begin_record.ensures

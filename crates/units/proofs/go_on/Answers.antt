@@ -1,22 +1,25 @@
 -- `units::go_on` meets its contract.
 -- Assumes nothing.
-use Rattle.units.proofs.Kept.{takes-few, goes_none, goes-skips, goes-takes, goes-surplus, goes-stray}
+use mathlib.Core.Path.{refl}
+use mathlib.Core.Bool.{false}
+use Rattle.lines.specs.Answer.{line_of}
+use Rattle.plain.specs.Loader.{step_kind, entries_of, loads_of}
+use Rattle.units.proofs.Kept.{stray-reads, skips-reads, row-reads}
 use Rattle.units.proofs.go_on.Goals as goal
 
-pub row_next-row-requires : goal.row_next-row-requires
-row_next-row-requires c = (c.requires.0, c.requires.1, takes-few _ _ _ _ _ _ c.in-Takes.is c.requires.2)
-
 pub returns-then-detail : goal.returns-then-detail
-returns-then-detail c = (goes-surplus c.args.detail _ _ c.args.unit _ _ _ _ _ _ _ c.in-Waits.is c.surplus.result c.if-detail.true c.surplus.ensures, c.requires.1)
+unfolding step_kind entries_of loads_of
+returns-then-detail c = rw (c.in-Waits.is, c.if-detail.true, c.surplus.ensures) (record { leaves = refl; entered = refl; none = refl })
 
 pub returns-in-None : goal.returns-in-None
-returns-in-None c = (goes_none c.args.detail _ _ c.args.unit _ _ _ _ c.stray.result c.in-None.is c.stray.ensures, c.requires.1)
+returns-in-None c = rw (c.in-None.is, c.stray.ensures) (stray-reads _ _ _ c.args.detail)
 
 pub returns-in-Takes : goal.returns-in-Takes
-returns-in-Takes c = (goes-takes c.args.detail _ _ c.args.unit _ _ _ _ _ _ c.in-Takes.is c.row_next-row.result c.settle.result _ _ c.row_next-row.ensures.0 (c.settle.ensures _ _ _), c.row_next-row.ensures.1)
+returns-in-Takes c = rw (c.in-Takes.is, row-reads _ _ _ c.args.detail, ← c.row_next-row.ensures) (c.settle.ensures _)
 
 pub returns-else-detail : goal.returns-else-detail
-returns-else-detail c = (goes-stray c.args.detail _ _ c.args.unit _ _ _ _ _ _ _ c.in-Waits.is c.stray-in-Waits.result c.if-detail.false c.stray-in-Waits.ensures, c.requires.1)
+unfolding step_kind
+returns-else-detail c = rw (c.in-Waits.is, c.if-detail.false, c.stray-in-Waits.ensures) (stray-reads c.args.n (line_of c.args.line) c.args.index.now false)
 
 pub returns-in-Skips : goal.returns-in-Skips
-returns-in-Skips c = (goes-skips c.args.detail _ _ c.args.unit _ _ _ _ c.quiet.result c.in-Skips.is c.quiet.ensures, c.requires.1)
+returns-in-Skips c = rw (c.quiet.ensures, c.in-Skips.is) (skips-reads _ _ _ c.args.detail)

@@ -1,19 +1,26 @@
 -- `units::judged` meets its contract.
 -- Assumes nothing.
-use Rattle.units.proofs.Kept.{judged_not, judged-none, judged-takes, judged-waits, judged-skips}
+use mathlib.Core.Path.{refl}
+use Rattle.plain.specs.Loader.{settle, entries_of, loads_of}
+use Rattle.units.proofs.Kept.{quiet-reads}
 use Rattle.units.proofs.judged.Goals as goal
 
 pub returns-then-not-all : goal.returns-then-not-all
-returns-then-not-all c = λ words. judged_not c.args.all _ _ c.args.unit _ _ words c.quiet.result c.if-not-all.true c.quiet.ensures
+returns-then-not-all c = rw (c.if-not-all.true, c.quiet.ensures) (quiet-reads _)
 
 pub returns-in-None : goal.returns-in-None
-returns-in-None c = λ words. judged-none c.args.all _ _ c.args.unit _ _ words c.quiet-in-None.result c.if-not-all.false c.in-None.is c.quiet-in-None.ensures
+returns-in-None c = rw (c.if-not-all.false, c.quiet-in-None.ensures, c.in-None.is) (quiet-reads _)
 
-pub returns-in-Takes : goal.returns-in-Takes
-returns-in-Takes c = λ words. judged-takes c.args.all _ _ c.args.unit _ _ words _ _ c.if-not-all.false c.in-Takes.is c.check-row.result c.settle.result (c.check-row.ensures words) (c.settle.ensures _ _ words)
+pub returns-in-Err : goal.returns-in-Err
+unfolding settle entries_of loads_of
+returns-in-Err c = rw (c.if-not-all.false, c.in-Takes.is, c.refused.ensures, ← c.in-Err.ensures) (record { leaves = refl; entered = refl; none = refl })
+
+pub returns-in-Ok : goal.returns-in-Ok
+unfolding settle
+returns-in-Ok c = rw (c.if-not-all.false, c.in-Takes.is, c.quiet-in-Ok.ensures, ← c.in-Ok.ensures) (quiet-reads _)
 
 pub returns-in-Waits : goal.returns-in-Waits
-returns-in-Waits c = λ words. judged-waits c.args.all _ _ c.args.unit _ _ words _ _ _ c.quiet-in-Waits.result c.if-not-all.false c.in-Waits.is c.quiet-in-Waits.ensures
+returns-in-Waits c = rw (c.if-not-all.false, c.quiet-in-Waits.ensures, c.in-Waits.is) (quiet-reads _)
 
 pub returns-in-Skips : goal.returns-in-Skips
-returns-in-Skips c = λ words. judged-skips c.args.all _ _ c.args.unit _ _ words c.quiet-in-Skips.result c.if-not-all.false c.in-Skips.is c.quiet-in-Skips.ensures
+returns-in-Skips c = rw (c.if-not-all.false, c.quiet-in-Skips.ensures, c.in-Skips.is) (quiet-reads _)

@@ -1,22 +1,31 @@
 -- `units::load_waiting` meets its contract.
 -- Assumes nothing.
-use Rattle.units.proofs.Loads.{ends-none, ends-takes, ends-skips, load_in, no_meter_lem, no_day}
+use mathlib.Core.Path.{ap, ◌∙◌}
+use native.Mathlib.Omega.{arith}
+use Rattle.registry.proofs.Laws.{meters-most, window-most}
+use Rattle.units.proofs.Loads.{none-waits, load-in, no-meter, no-day}
 use Rattle.units.proofs.load_waiting.Goals as goal
 
-pub returns-in-None : goal.returns-in-None
-returns-in-None c = ends-none _ _ _ _ c.in-None.is
+pub returns-in_default : goal.returns-in_default
+returns-in_default c = none-waits _ _ _ _ c.in_default.not-Waits
 
-pub returns-in-Takes : goal.returns-in-Takes
-returns-in-Takes c = ends-takes _ _ _ _ _ _ c.in-Takes.is
+pub cell_number-requires-clause-sizes : goal.cell_number-requires-clause-sizes
+cell_number-requires-clause-sizes c = record { few = rw c.meters-meters.ensures (meters-most _); short = rw c.window-days.ensures.0 (window-most _) }
 
-pub returns-in-Skips : goal.returns-in-Skips
-returns-in-Skips c = ends-skips _ _ _ _ c.in-Skips.is
+pub returns-then-at-days : goal.returns-then-at-days
+returns-then-at-days c =
+    load-in _ _ _ _ _ _ _ c.in-Waits.is _ c.channel_number.ensures _ _
+    (omega (arith, c.from.ensures, c.meters-meters.ensures, c.if-at-meters.true))
+    (omega (arith, c.from-2.ensures, ap (λ w. w.days) c.window-days.ensures.0, c.if-at-days.true))
+    (c.cell_number.ensures.0 ∙ rw (c.meters-meters.ensures, c.window-days.ensures.0, c.from.ensures, c.from-2.ensures))
+    c.load.ensures
 
-pub returns-then-day-days : goal.returns-then-day-days
-returns-then-day-days c = load_in _ _ _ _ _ _ _ c.in-Waits.is _ _ _ c.if-meter-known.true c.if-day-days.true c.channel_number-c.ensures c.cell_number-number.ensures.0 c.load.ensures
+pub returns-else-at-days : goal.returns-else-at-days
+returns-else-at-days c =
+    no-day _ _ _ _ _ _ _ c.in-Waits.is _ c.channel_number.ensures
+    (omega (arith, c.from.ensures, c.meters-meters.ensures, c.if-at-meters.true))
+    (omega (arith, c.from-2.ensures, ap (λ w. w.days) c.window-days.ensures.0, c.if-at-days.false))
 
-pub returns-else-day-days : goal.returns-else-day-days
-returns-else-day-days c = no_day _ _ _ _ _ _ _ c.in-Waits.is _ c.if-meter-known.true c.if-day-days.false c.channel_number-c.ensures
-
-pub returns-else-meter-known : goal.returns-else-meter-known
-returns-else-meter-known c = no_meter_lem _ _ _ _ _ _ _ c.in-Waits.is c.if-meter-known.false
+pub returns-else-at-meters : goal.returns-else-at-meters
+returns-else-at-meters c =
+    no-meter _ _ _ _ _ _ _ c.in-Waits.is _ c.channel_number.ensures (omega (arith, c.from.ensures, c.meters-meters.ensures, c.if-at-meters.false))

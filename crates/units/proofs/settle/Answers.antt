@@ -1,13 +1,13 @@
 -- `units::settle` meets its contract.
 -- Assumes nothing.
-use Rattle.units.proofs.Kept.{settle-refused, settle_goes, settle-waits}
+use mathlib.Core.Path.{refl}
+use Rattle.plain.specs.Loader.{settle, entries_of, loads_of}
+use Rattle.units.proofs.Kept.{quiet-reads}
 use Rattle.units.proofs.settle.Goals as goal
 
-pub returns-in-Refused : goal.returns-in-Refused
-returns-in-Refused c = λ id sender words. settle-refused _ _ _ _ id sender words _ _ c.in-Refused.is
+pub returns-in-Err : goal.returns-in-Err
+unfolding settle entries_of loads_of
+returns-in-Err c = λ r. rw (c.in-Err.is, c.refused.ensures) (record { leaves = refl; entered = refl; none = refl })
 
-pub returns-in-GoesOn : goal.returns-in-GoesOn
-returns-in-GoesOn c = λ id sender words. settle_goes _ _ _ _ id sender words _ c.in-GoesOn.is
-
-pub returns-in-Complete : goal.returns-in-Complete
-returns-in-Complete c = λ id sender words. settle-waits _ _ _ _ id sender words _ c.in-Complete.is
+pub returns-in-Ok : goal.returns-in-Ok
+returns-in-Ok c = λ r. rw (c.in-Ok.is, c.quiet.ensures, c.unit_after.ensures) (quiet-reads _)

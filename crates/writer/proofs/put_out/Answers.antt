@@ -1,18 +1,18 @@
 -- `writer::put_out` meets its contract.
 -- Assumes nothing.
-use mathlib.Core.Path.{sym}
-use lib.Seq.{length-take-le}
-use Rattle.writer.proofs.Answers.{none_out, all_out}
+use mathlib.Core.Path.{◌∙◌}
+use Rattle.report.proofs.Passing.{answers-exit}
+use Rattle.writer.proofs.Answers.{fitting-tested}
 use Rattle.writer.proofs.put_out.Goals as goal
 
-pub returns-then-output-n : goal.returns-then-output-n
-returns-then-output-n c = none_out _ _ _ c.if-output-n.true c.refused.ensures
+pub returns-in_err-require-clause-answer : goal.returns-in_err-require-clause-answer
+returns-in_err-require-clause-answer c = answers-exit _ _ c.from_residual.ensures.1 ∙ rw (fitting-tested c.args.output.now c.args.bytes.now, ← c.in_err-require.ensures)
 
-pub slice_bounds-copy-end-2 : goal.slice_bounds-copy-end-2
-slice_bounds-copy-end-2 c = sym (length-take-le _ _ c.if-output-n.false)
+pub returns-in_err-require-clause-bytes : goal.returns-in_err-require-clause-bytes
+returns-in_err-require-clause-bytes c = rw (fitting-tested c.args.output.now c.args.bytes.now, ← c.in_err-require.ensures)
 
-pub copy-requires : goal.copy-requires
-copy-requires c = length-take-le _ _ c.if-output-n.false
+pub returns-clause-answer : goal.returns-clause-answer
+returns-clause-answer c = rw (fitting-tested c.args.output.now c.args.bytes.now, ← c.in_ok-require.ensures)
 
-pub returns : goal.returns
-returns c = all_out _ _ _ c.if-output-n.false c.copy.ensures
+pub returns-clause-bytes : goal.returns-clause-bytes
+returns-clause-bytes c = rw (fitting-tested c.args.output.now c.args.bytes.now, ← c.in_ok-require.ensures, c.copy_from_slice.ensures.after)

@@ -19,12 +19,9 @@ put_four-end-requires c = rw c.stamp_in.ensures (omega (arith, simp record-size 
 pub put_thirty-end-requires : goal.put_thirty-end-requires
 put_thirty-end-requires c = omega (arith, simp record-size at c.requires.room, c.put_one-end.ensures.behind, c.put_two-end.ensures.behind, c.put_three-end.ensures.behind, rw c.stamp_in.ensures at c.put_four-end.ensures.behind)
 
-pub bounds-words-0 : goal.bounds-words-0
-bounds-words-0 c = omega (arith, c.requires.words_len.0)
-
 pub put_details-requires : goal.put_details-requires
 put_details-requires c = record {
-  words_len = (c.requires.words_len.0, omega (arith, c.requires.words_len.1), c.requires.words_len.2);
+  words = (omega (arith, c.requires.words.0), c.requires.words.1);
   room = omega (arith, simp record-size at c.requires.room, c.put_one-end.ensures.behind, c.put_two-end.ensures.behind, c.put_three-end.ensures.behind, rw c.stamp_in.ensures at c.put_four-end.ensures.behind, c.put_thirty-end.ensures.behind);
 }
 

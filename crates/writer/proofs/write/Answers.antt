@@ -1,33 +1,48 @@
 -- `writer::write` meets its contract.
 -- Assumes nothing.
-use mathlib.Core.List.{[]}
-use native.Mathlib.Omega.{arith}
-use Rattle.writer.proofs.Answers.{no_cell_lem, undescribed, cell-written, writable}
+use mathlib.Core.Path.{sym, ◌∙◌}
+use Rattle.report.proofs.Passing.{answers-exit, test-passed}
+use Rattle.registry.proofs.Laws.{index-none, index-some}
+use Rattle.cells.specs.Sound.{sound_cell}
+use Rattle.writer.specs.Write.{writes, written_record, fitting}
+use Rattle.writer.proofs.Answers.{writable}
 use Rattle.writer.proofs.write.Goals as goal
 
-pub returns-then-not-is_descriptor : goal.returns-then-not-is_descriptor
-returns-then-not-is_descriptor c =
-    let out = undescribed _ _ _ _ _ _ _ _ _ c.find_sound.ensures c.in-At.is _ c.is_descriptor.ensures _ c.if-not-is_descriptor.true c.refused-then-not-is_descriptor.ensures in
-    record { number = out.0; bytes = out.1 }
+pub returns-in_default-clause-answer : goal.returns-in_default-clause-answer
+unfolding writes written_record fitting sound_cell
+returns-in_default-clause-answer c = rw (index-none _ c.in_default.ensures)
 
-pub overflow_add-end : goal.overflow_add-end
-overflow_add-end c = omega (arith, (c.find_sound.ensures.within) _ c.in-At.is)
+pub returns-in_default-clause-bytes : goal.returns-in_default-clause-bytes
+unfolding writes written_record fitting sound_cell
+returns-in_default-clause-bytes c = rw (index-none _ c.in_default.ensures)
 
-pub offset_bounds-table-start : goal.offset_bounds-table-start
-offset_bounds-table-start c = omega (arith, (c.find_sound.ensures.within) _ c.in-At.is)
+pub returns-in_err-words-clause-answer : goal.returns-in_err-words-clause-answer
+unfolding writes written_record fitting
+returns-in_err-words-clause-answer c = answers-exit _ _ c.from_residual.ensures.1 ∙ rw (← (index-some _ _ c.in-Some.ensures).1, ← c.in_err-words.ensures)
 
-pub slice_bounds-write_cell-end-in-At-2 : goal.slice_bounds-write_cell-end-in-At-2
-slice_bounds-write_cell-end-in-At-2 c = omega (arith, (c.find_sound.ensures.within) _ c.in-At.is)
+pub returns-in_err-words-clause-bytes : goal.returns-in_err-words-clause-bytes
+unfolding writes written_record fitting
+returns-in_err-words-clause-bytes c = rw (← (index-some _ _ c.in-Some.ensures).1, ← c.in_err-words.ensures)
+
+pub returns-in_err-require-clause-answer : goal.returns-in_err-require-clause-answer
+unfolding writes written_record fitting
+returns-in_err-require-clause-answer c =
+    answers-exit _ _ c.from_residual-in_err-require.ensures.1
+    ∙ rw (← (index-some _ _ c.in-Some.ensures).1, ← c.in_ok-words.ensures, ← c.is_descriptor.ensures, ← c.in_err-require.ensures)
+
+pub returns-in_err-require-clause-bytes : goal.returns-in_err-require-clause-bytes
+unfolding writes written_record fitting
+returns-in_err-require-clause-bytes c = rw (← (index-some _ _ c.in-Some.ensures).1, ← c.in_ok-words.ensures, ← c.is_descriptor.ensures, ← c.in_err-require.ensures)
 
 pub write_cell-requires : goal.write_cell-requires
-write_cell-requires c = writable _ _ _ _ _ _ [] _ _ c.find_sound.ensures c.in-At.is _ c.is_descriptor.ensures _ c.of-index.ensures c.if-not-is_descriptor.false
+write_cell-requires c = writable _ _ _ _ _ _ _ c.in_ok-words.ensures (sym c.is_descriptor.ensures ∙ test-passed _ _ c.in_ok-require.ensures)
 
-pub returns-in-Refused : goal.returns-in-Refused
-returns-in-Refused c =
-    let out = no_cell_lem _ _ _ _ _ _ _ _ _ _ c.find_sound.ensures c.in-Refused.is c.refused.ensures in
-    record { number = out.0; bytes = out.1 }
+pub returns-clause-answer : goal.returns-clause-answer
+unfolding writes written_record
+returns-clause-answer c =
+    rw (← (index-some _ _ c.in-Some.ensures).1, ← c.in_ok-words.ensures, ← c.is_descriptor.ensures, ← c.in_ok-require.ensures) c.write_cell.ensures.answer
 
-pub returns-else-not-is_descriptor : goal.returns-else-not-is_descriptor
-returns-else-not-is_descriptor c =
-    let out = cell-written _ _ _ _ _ _ _ _ _ c.find_sound.ensures c.in-At.is _ c.is_descriptor.ensures _ _ c.if-not-is_descriptor.false (c.write_cell.ensures.number, c.write_cell.ensures.bytes) in
-    record { number = out.0; bytes = out.1 }
+pub returns-clause-bytes : goal.returns-clause-bytes
+unfolding writes written_record
+returns-clause-bytes c =
+    rw (← (index-some _ _ c.in-Some.ensures).1, ← c.in_ok-words.ensures, ← c.is_descriptor.ensures, ← c.in_ok-require.ensures) c.write_cell.ensures.bytes

@@ -1,25 +1,28 @@
 -- `writer::write_cell` meets its contract.
 -- Assumes nothing.
-use mathlib.Core.Path.{refl, sym}
-use lib.ListN.{replicate}
+use mathlib.Core.Path.{sym, ap, ◌∙◌}
+use native.Mathlib.Omega.{arith}
 use lib.Seq.{length-take-le}
-use Rattle.writer.specs.Record.{record_limit}
-use Rattle.writer.proofs.Answers.{put_front, fits_in, cell_out}
+use Rattle.registry.proofs.Laws.{sound-window}
+use Rattle.writer.proofs.Answers.{put_front, cell-text, cell-most}
 use Rattle.writer.proofs.write_cell.Goals as goal
 
-pub put_record-n-requires : goal.put_record-n-requires
-put_record-n-requires c = record {
-  words_len = (c.requires.wide, c.requires.few, c.requires.values);
-  room = fits_in _ _ _ _ _ _ _ _ _ _ c.requires _ _ _ _ _ c.id_of.ensures.0 c.id_of.ensures.1 c.unpadded-id.ensures c.owner_of.ensures.0 c.owner_of.ensures.1 c.unpadded-owner.ensures c.date_of-date.ensures (replicate record_limit 0) refl;
-}
+pub overflow_add-window : goal.overflow_add-window
+overflow_add-window c = omega (arith, c.requires.day, (sound-window _ c.window.ensures.1).ends, ap (λ w. w.first) c.window.ensures.0)
+
+pub put_record-n-requires-clause-room : goal.put_record-n-requires-clause-room
+put_record-n-requires-clause-room c =
+    rw (cell-text c.args.at.channel c.requires c.window.ensures c.unpadded-id.ensures c.id_of.ensures.0 c.unpadded-owner.ensures c.owner_of.ensures.0 c.date_of-date.ensures)
+    (omega (arith, cell-most c.args.at.channel c.requires))
 
 pub slice_bounds-bytes-end : goal.slice_bounds-bytes-end
-slice_bounds-bytes-end c = (put_front _ _ _ _ (c.put_record-n.ensures)).1
+slice_bounds-bytes-end c = (put_front _ _ _ _ c.put_record-n.ensures).1
 
 pub slice_bounds-put_out-end : goal.slice_bounds-put_out-end
-slice_bounds-put_out-end c = sym (length-take-le _ _ (put_front _ _ _ _ (c.put_record-n.ensures)).1)
+slice_bounds-put_out-end c = sym (length-take-le _ _ (put_front _ _ _ _ c.put_record-n.ensures).1)
 
-pub returns : goal.returns
-returns c =
-    let out = cell_out _ _ _ _ _ _ _ _ _ _ c.requires _ _ _ _ _ c.id_of.ensures.0 c.id_of.ensures.1 c.unpadded-id.ensures c.owner_of.ensures.0 c.owner_of.ensures.1 c.unpadded-owner.ensures c.date_of-date.ensures _ _ _ _ _ _ c.put_record-n.ensures c.put_out.ensures in
-    record { number = out.0; bytes = out.1 }
+pub returns-clause-answer : goal.returns-clause-answer
+returns-clause-answer c = rw (← ((put_front _ _ _ _ c.put_record-n.ensures).0 ∙ cell-text c.args.at.channel c.requires c.window.ensures c.unpadded-id.ensures c.id_of.ensures.0 c.unpadded-owner.ensures c.owner_of.ensures.0 c.date_of-date.ensures)) c.put_out.ensures.answer
+
+pub returns-clause-bytes : goal.returns-clause-bytes
+returns-clause-bytes c = rw (← ((put_front _ _ _ _ c.put_record-n.ensures).0 ∙ cell-text c.args.at.channel c.requires c.window.ensures c.unpadded-id.ensures c.id_of.ensures.0 c.unpadded-owner.ensures c.owner_of.ensures.0 c.date_of-date.ensures)) c.put_out.ensures.bytes

@@ -12,7 +12,7 @@ unfolding row_detail digits_of
 returns-in_err-begin c = says-exit _ _ c.from_residual.ensures.1 ∙ rw (← c.in_err-begin.ensures)
 
 pub read_fields-requires : goal.read_fields-requires
-read_fields-requires c = (begun-due _ _ _ _ c.in_ok-begin.ensures).count
+read_fields-requires c = (begun-due _ _ _ c.in_ok-begin.ensures).count
 
 pub returns : goal.returns
 unfolding row_detail digits_of

@@ -11,7 +11,7 @@ unfolding row_thirty
 returns-in_err-begin c = bind-exit _ _ _ c.from_residual.ensures.1 ∙ rw (← c.in_err-begin.ensures)
 
 pub read_fields-requires : goal.read_fields-requires
-read_fields-requires c = begun-due _ _ _ _ c.in_ok-begin.ensures
+read_fields-requires c = begun-due _ _ _ c.in_ok-begin.ensures
 
 pub returns : goal.returns
 unfolding row_thirty

@@ -15,5 +15,5 @@ returns-in_err-begin c = says-exit _ _ c.from_residual.ensures.1 ∙ rw (← c.i
 pub returns : goal.returns
 unfolding row_three
 returns c =
-    let due = begun-due _ _ _ _ c.in_ok-begin.ensures in
-    rw (← c.in_ok-begin.ensures, cut_at 1 c.args.line.now (omega (arith, due.count)), ← c.after.ensures, ← c.field-descriptor.ensures, ← c.is_descriptor.ensures) c.require.ensures
+    let due = begun-due _ _ _ c.in_ok-begin.ensures in
+    rw (← c.in_ok-begin.ensures, cut_at 1 c.args.line.body.now (omega (arith, due.count)), ← c.after.ensures, ← c.field-descriptor.ensures, ← c.is_descriptor.ensures) c.require.ensures

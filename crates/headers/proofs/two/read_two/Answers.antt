@@ -11,10 +11,10 @@ unfolding row_two
 returns-in_err-begin c = says-exit _ _ c.from_residual.ensures.1 ∙ rw (← c.in_err-begin.ensures)
 
 pub fit_all-requires : goal.fit_all-requires
-fit_all-requires c = begun-due _ _ _ _ c.in_ok-begin.ensures
+fit_all-requires c = begun-due _ _ _ c.in_ok-begin.ensures
 
 pub has_multiplier-requires : goal.has_multiplier-requires
-has_multiplier-requires c = (begun-due _ _ _ _ c.in_ok-begin.ensures).count
+has_multiplier-requires c = (begun-due _ _ _ c.in_ok-begin.ensures).count
 
 pub returns : goal.returns
 unfolding row_two two_of

@@ -1,40 +1,42 @@
 -- `pieces::run::read_lines` meets its contract.
 -- Assumes nothing.
+use mathlib.Core.Path.{refl}
 use native.Mathlib.Omega.{arith}
-use mathlib.Core.Path.{refl, ◌∙◌}
+use borrow.Author.Rules.{rules}
 use lib.ListN.{length}
-use Rattle.pieces.proofs.Moving.{run_asks, comes_first, comes_run, comes_line, comes_end, goes_true, further, room-same, hinted_index, hinted_room}
+use Rattle.pieces.proofs.Moving.{comes_first, comes_run, comes_line, comes_end, goes_true, further}
 use Rattle.pieces.proofs.run.read_lines.Goals as goal
 
-pub loop-k-init : goal.loop-k-init
-loop-k-init c = (comes_first _ _ _ _ _ _ _ _ _ _ _ _ c.requires.2 c.requires.3 c.requires.4, refl, refl, refl, omega arith, omega arith)
-
-pub goes_on-requires : goal.goes_on-requires
-goes_on-requires c = c.loop-k.invariant.4
-
-pub run_over-q-requires : goal.run_over-q-requires
-run_over-q-requires c = run_asks _ _ _ _ _ _ _ _ _ c.loop-k.invariant.0.holds c.loop-k.invariant.0.within
-
-pub judged-s-requires : goal.judged-s-requires
-judged-s-requires c = (hinted_index _ _ c.loop-k.invariant.2 c.loop-k.invariant.3 _ _ _ c.requires.0, c.loop-k.invariant.0.holds.sized.id_sized, c.run_over-q.ensures.sender_sized)
+pub loop-scan-init : goal.loop-scan-init
+loop-scan-init c = (comes_first _ _ _ _ _ _ c.requires.holds c.requires.within c.requires.wide, refl, omega arith, omega arith)
 
 pub put-count-requires : goal.put-count-requires
-put-count-requires c = (omega (arith, (goes_true c.loop-k.e (length c.args.piece.now) c.loop-k.count _ c.goes_on.ensures c.loop-k-test.true).1), c.loop-k.invariant.0.sized)
+put-count-requires c = (omega (arith, (goes_true c.loop-scan.e (length c.args.piece.now) c.loop-scan.count _ c.goes_on.ensures c.loop-scan-test.true).1), c.loop-scan.invariant.0.sized)
 
-pub next_line-m-requires : goal.next_line-m-requires
-next_line-m-requires c = (hinted_index _ _ (c.hinted-k.ensures.0 ∙ c.loop-k.invariant.2) (c.hinted-k.ensures.1 ∙ c.loop-k.invariant.3) _ _ _ c.requires.0, hinted_room _ _ (c.hinted-k.ensures.0 ∙ c.loop-k.invariant.2) (c.hinted-k.ensures.1 ∙ c.loop-k.invariant.3) _ (room-same _ _ _ c.requires.1 c.loop-k.invariant.1), (comes_run _ _ _ _ _ _ _ _ _ _ _ _ c.loop-k.invariant.0 c.run_over-q.result _ _ c.run_over-q.ensures c.judged-s.result c.judged-s.ensures _ _ c.put-count.ensures).holds, c.run_over-q.ensures.within)
+pub next_line-moved-requires-clause-holds : goal.next_line-moved-requires-clause-holds
+next_line-moved-requires-clause-holds c =
+    (comes_run _ _ _ _ _ _ _ _ _ c.loop-scan.invariant.0 c.run_over-passed.result _ c.run_over-passed.ensures c.judged-next.result
+    c.judged-next.ensures _ _ c.put-count.ensures).holds
 
-pub put-count-requires-in-loop-k : goal.put-count-requires-in-loop-k
-put-count-requires-in-loop-k c = (omega (arith, (goes_true c.loop-k.e (length c.args.piece.now) c.loop-k.count _ c.goes_on.ensures c.loop-k-test.true).1, c.put-count.ensures.2), c.put-count.ensures.3)
+pub put-count-requires-in-loop-scan : goal.put-count-requires-in-loop-scan
+put-count-requires-in-loop-scan c = (omega (arith, (goes_true c.loop-scan.e (length c.args.piece.now) c.loop-scan.count _ c.goes_on.ensures c.loop-scan-test.true).1, c.put-count.ensures.2), c.put-count.ensures.3)
 
-pub put-count-requires-in-loop-k-2 : goal.put-count-requires-in-loop-k-2
-put-count-requires-in-loop-k-2 c = (omega (arith, (goes_true c.loop-k.e (length c.args.piece.now) c.loop-k.count _ c.goes_on.ensures c.loop-k-test.true).1, c.put-count.ensures.2, c.put-count-in-loop-k.ensures.2), c.put-count-in-loop-k.ensures.3)
+pub put-count-requires-in-loop-scan-2 : goal.put-count-requires-in-loop-scan-2
+put-count-requires-in-loop-scan-2 c = (omega (arith, (goes_true c.loop-scan.e (length c.args.piece.now) c.loop-scan.count _ c.goes_on.ensures c.loop-scan-test.true).1, c.put-count.ensures.2, c.put-count-in-loop-scan.ensures.2), c.put-count-in-loop-scan.ensures.3)
 
-pub loop-k-smaller : goal.loop-k-smaller
-loop-k-smaller c = omega (arith, further c.loop-k.e c.run_over-q.result.at c.next_line-m.result.at (length c.args.piece.now) (goes_true c.loop-k.e (length c.args.piece.now) c.loop-k.count _ c.goes_on.ensures c.loop-k-test.true).0 c.run_over-q.ensures.behind c.next_line-m.ensures.behind c.next_line-m.ensures.moved, c.next_line-m.ensures.within)
+pub loop-scan-smaller : goal.loop-scan-smaller
+loop-scan-smaller c = omega (arith, further c.loop-scan.e c.run_over-passed.result.at c.next_line-moved.result.at (length c.args.piece.now) (goes_true c.loop-scan.e (length c.args.piece.now) c.loop-scan.count _ c.goes_on.ensures c.loop-scan-test.true).0 c.run_over-passed.ensures.behind c.next_line-moved.ensures.behind c.next_line-moved.ensures.moved, c.next_line-moved.ensures.within)
 
-pub loop-k-preserved : goal.loop-k-preserved
-loop-k-preserved c = (comes_line _ _ _ _ _ _ _ _ _ _ _ _ (comes_run _ _ _ _ _ _ _ _ _ _ _ _ c.loop-k.invariant.0 c.run_over-q.result _ _ c.run_over-q.ensures c.judged-s.result c.judged-s.ensures _ _ c.put-count.ensures) c.next_line-m.result _ _ _ _ _ c.next_line-m.ensures _ _ _ _ c.put-count-in-loop-k.ensures c.put-count-in-loop-k-2.ensures, c.table-1.given ∙ c.loop-k.invariant.1, c.hinted-k.ensures.0 ∙ c.loop-k.invariant.2, c.hinted-k.ensures.1 ∙ c.loop-k.invariant.3, omega (arith, (goes_true c.loop-k.e (length c.args.piece.now) c.loop-k.count _ c.goes_on.ensures c.loop-k-test.true).1, c.put-count.ensures.2, c.put-count-in-loop-k.ensures.2, c.put-count-in-loop-k-2.ensures.2), omega (arith, c.loop-k.invariant.5, c.loop-k.invariant.0.behind, further c.loop-k.e c.run_over-q.result.at c.next_line-m.result.at (length c.args.piece.now) (goes_true c.loop-k.e (length c.args.piece.now) c.loop-k.count _ c.goes_on.ensures c.loop-k-test.true).0 c.run_over-q.ensures.behind c.next_line-m.ensures.behind c.next_line-m.ensures.moved, c.put-count.ensures.2, c.put-count-in-loop-k.ensures.2, c.put-count-in-loop-k-2.ensures.2))
+pub loop-scan-preserved : goal.loop-scan-preserved
+loop-scan-preserved c =
+    let run = comes_run _ _ _ _ _ _ _ _ _ c.loop-scan.invariant.0 c.run_over-passed.result _ c.run_over-passed.ensures c.judged-next.result c.judged-next.ensures _ _ c.put-count.ensures in
+    let more = goes_true c.loop-scan.e (length c.args.piece.now) c.loop-scan.count _ c.goes_on.ensures c.loop-scan-test.true in
+    let on = further c.loop-scan.e c.run_over-passed.result.at c.next_line-moved.result.at (length c.args.piece.now) more.0 c.run_over-passed.ensures.behind c.next_line-moved.ensures.behind c.next_line-moved.ensures.moved in (
+      comes_line _ _ _ _ _ _ _ _ _ run c.next_line-moved.result _ _ c.next_line-moved.ensures _ _ _ _ c.put-count-in-loop-scan.ensures c.put-count-in-loop-scan-2.ensures,
+      search rules,
+      omega (arith, more.1, c.put-count.ensures.2, c.put-count-in-loop-scan.ensures.2, c.put-count-in-loop-scan-2.ensures.2),
+      omega (arith, c.loop-scan.invariant.3, c.loop-scan.invariant.0.behind, on, c.put-count.ensures.2, c.put-count-in-loop-scan.ensures.2, c.put-count-in-loop-scan-2.ensures.2),
+    )
 
 pub returns : goal.returns
-returns c = comes_end _ _ _ _ _ _ _ _ _ _ _ _ c.loop-k.invariant.0 _ c.goes_on.ensures c.loop-k-test.false c.loop-k.invariant.4 c.loop-k.invariant.5
+returns c = comes_end _ _ _ _ _ _ _ _ _ c.loop-scan.invariant.0 _ c.goes_on.ensures c.loop-scan-test.false c.loop-scan.invariant.2 c.loop-scan.invariant.3

@@ -5,15 +5,15 @@ use Rattle.cell.specs.Marks.{estimated}
 use Rattle.reads.proofs.Count.{count_again, count_fits, count_end}
 use Rattle.reads.proofs.sound.count_marks.Goals as goal
 
-pub loop-word-init : goal.loop-word-init
+pub loop-i-init : goal.loop-i-init
 unfolding estimated
-loop-word-init c = refl
+loop-i-init c = refl
 
 pub overflow_add-n : goal.overflow_add-n
-overflow_add-n c = count_fits c.args.words.now c.requires _ _ c.loop-word.invariant c.loop-word-test.true (c.type_inv.words _).fits
+overflow_add-n c = count_fits c.args.words.now c.told-words _ _ c.loop-i.invariant c.loop-i-test.true (c.type_inv.marks _).fits
 
-pub loop-word-preserved : goal.loop-word-preserved
-loop-word-preserved c = count_again c.args.words.now c.requires _ _ c.loop-word.invariant c.loop-word-test.true (c.type_inv.words _).fits
+pub loop-i-preserved : goal.loop-i-preserved
+loop-i-preserved c = count_again c.args.words.now c.told-words _ _ c.loop-i.invariant c.loop-i-test.true (c.type_inv.marks _).fits
 
 pub returns : goal.returns
-returns c = count_end c.args.words.now c.requires _ _ c.loop-word.invariant (search rules) (search rules)
+returns c = count_end c.args.words.now c.told-words _ _ c.loop-i.invariant (search rules) (search rules)

@@ -4,5 +4,5 @@ use Rattle.cell.specs.Layout.{word_bits}
 use Rattle.cell.specs.Marks.{estimated}
 use Rattle.reads.proofs.sound.count_marks.Given as goal
 
-abbrev pub invariant-loop-word : goal.invariant-loop-word
-invariant-loop-word l = l.n ≡ estimated (l.word-index * word_bits) l.words
+abbrev pub invariant-loop-i : goal.invariant-loop-i
+invariant-loop-i l = l.n ≡ estimated (l.i * word_bits) l.words

@@ -4,4 +4,4 @@ use Rattle.reads.proofs.Scan.{clear}
 use Rattle.reads.proofs.sound.is_clear.Goals as goal
 
 pub returns : goal.returns
-returns c = rw c.all_zero.ensures (clear c.args.words.now c.args.n c.requires.0 c.requires.1 (λ i. (c.type_inv.words i).fits))
+returns c = rw c.all_zero.ensures (clear c.args.words.now c.args.n c.requires c.told-words c.fits-words)

@@ -8,4 +8,4 @@ pub returns : goal.returns
 unfolding is_sound
 returns c =
     let a = c.args in
-    cc (values_are a.words.now, unused_are a.words.now a.n)
+    rw (c.is_clear.ensures, c.all_zero-zero.ensures, c.all_values-values.ensures, c.is_real_stamp-real.ensures, c.stamp_in.ensures, values_are a.words.now c.told-words, unused_are a.words.now a.n c.told-words)

@@ -1,35 +1,39 @@
 -- `registry::Index::of` meets its contract.
 -- Assumes nothing.
-use borrow.Author.Rules.{rules}
-use Rattle.registry.proofs.Walk.{walk_start, walk_owner, walk_meter, walk_broken, walk_disorder, meter-whole, room, start_broken, index_broken, index_sound}
+use mathlib.Core.Path.{refl}
+use Rattle.registry.proofs.Walk.{walk_start, walk_owner, walk_meter, walk_broken, walk_unowned, walk_full, walk_disorder, meter-whole, start_broken, index-whole, index_sound}
 use Rattle.registry.proofs.Index.of.Goals as goal
 
-pub returns-in_default : goal.returns-in_default
-returns-in_default c = search (index_broken, start_broken, rules)
+pub returns-in_err-window : goal.returns-in_err-window
+returns-in_err-window c = rw c.from_residual.ensures (start_broken _ _ c.read_start.ensures c.in_err-window.was)
 
 pub loop-at-init : goal.loop-at-init
-loop-at-init c = search (walk_start, rules)
+loop-at-init c = walk_start _ _ _ _ c.read_start.ensures c.in_ok-window.was refl
 
 pub loop-at-preserved-in-Owner : goal.loop-at-preserved-in-Owner
-loop-at-preserved-in-Owner c = search (walk_owner, rules)
+loop-at-preserved-in-Owner c = walk_owner c.loop-at.invariant c.loop-at-test.true _ c.kind_at.ensures c.in-Owner.is
 
-pub in_order-requires : goal.in_order-requires
-in_order-requires c = search (meter-whole, rules)
+pub returns-in_err-theirs-in-Meter : goal.returns-in_err-theirs-in-Meter
+returns-in_err-theirs-in-Meter c = rw c.from_residual-in_err-theirs-in-Meter.ensures (walk_unowned c.loop-at.invariant c.loop-at-test.true _ c.kind_at.ensures c.in-Meter.is c.in_err-theirs-in-Meter.was)
 
-pub returns-then-not-in_order : goal.returns-then-not-in_order
-returns-then-not-in_order c = search (index_broken, walk_disorder, rules)
+pub returns-then-count-ge-MAX_METERS : goal.returns-then-count-ge-MAX_METERS
+returns-then-count-ge-MAX_METERS c = walk_full c.loop-at.invariant c.loop-at-test.true _ c.kind_at.ensures c.in-Meter.is c.if-count-ge-MAX_METERS.true
 
-pub bounds-meters-count : goal.bounds-meters-count
-bounds-meters-count c = search (room, rules)
+pub comes_after-requires-clause-whole : goal.comes_after-requires-clause-whole
+comes_after-requires-clause-whole c = meter-whole c.loop-at.invariant c.loop-at-test.true _ c.kind_at.ensures c.in-Meter.is
 
-pub bounds-owners-count : goal.bounds-owners-count
-bounds-owners-count c = search (room, rules)
+pub returns-then-not-comes_after : goal.returns-then-not-comes_after
+returns-then-not-comes_after c = walk_disorder c.loop-at.invariant c.loop-at-test.true _ c.kind_at.ensures c.in-Meter.is _ c.comes_after.ensures c.if-not-comes_after.true
 
 pub loop-at-preserved : goal.loop-at-preserved
-loop-at-preserved c = search (walk_meter, rules)
+loop-at-preserved c =
+    walk_meter c.loop-at.invariant c.loop-at-test.true _ c.kind_at.ensures c.in-Meter.is _ c.comes_after.ensures _ c.in_ok-theirs-in-Meter.was c.if-count-ge-MAX_METERS.false c.if-not-comes_after.false
 
 pub returns-in-Broken : goal.returns-in-Broken
-returns-in-Broken c = search (index_broken, walk_broken, rules)
+returns-in-Broken c = walk_broken c.loop-at.invariant c.loop-at-test.true _ c.kind_at.ensures c.in-Broken.is
+
+pub invariant_of-result : goal.invariant_of-result
+invariant_of-result c = index-whole _ _ _ _ c.loop-at.invariant c.loop-at-test.false
 
 pub returns : goal.returns
-returns c = search (index_sound, rules)
+returns c = index_sound _ _ _ _ c.loop-at.invariant c.loop-at-test.false

@@ -24,11 +24,11 @@ number_of-date-requires c = date_digits _ _ c.all_digits.ensures c.if-not-all_di
 pub number_of-days-requires : goal.number_of-days-requires
 number_of-days-requires c = days-digits _ _ c.all_digits.ensures c.if-not-all_digits.false c.text_at-body.ensures.1
 
-pub returns-in_default : goal.returns-in_default
-returns-in_default c = search (start_no_date, rules)
+pub returns-in_err-first : goal.returns-in_err-first
+returns-in_err-first c = rw c.from_residual.ensures (search (start_no_date, rules))
 
 pub overflow_add-first : goal.overflow_add-first
-overflow_add-first c = omega (arith, sum_low _ _ c.day_number.ensures _ c.in-Some.is _ _ (days-digits _ _ c.all_digits.ensures c.if-not-all_digits.false c.text_at-body.ensures.1) c.number_of-days.ensures)
+overflow_add-first c = omega (arith, sum_low _ _ c.day_number.ensures _ c.in_ok-first.was _ _ (days-digits _ _ c.all_digits.ensures c.if-not-all_digits.false c.text_at-body.ensures.1) c.number_of-days.ensures)
 
 pub returns-then-days-first : goal.returns-then-days-first
 returns-then-days-first c = search (start_right, rules)

@@ -1,7 +1,6 @@
 -- `report::words::put_entry` meets its contract.
 -- Assumes nothing.
 use native.Mathlib.Omega.{arith}
-use mathlib.Core.Path.{◌∙◌}
 use borrow.Author.Rules.{rules}
 use Rattle.std.proofs.lemmas.List.{places}
 use Rattle.report.proofs.Puts.{put-entry}

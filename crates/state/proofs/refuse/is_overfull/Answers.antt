@@ -1,7 +1,7 @@
 -- `state::refuse::is_overfull` meets its contract.
 -- Assumes nothing.
-use Rattle.state.proofs.Refusals.{overfull-says}
+use Rattle.state.proofs.Refusals.{overfull-tested}
 use Rattle.state.proofs.refuse.is_overfull.Goals as goal
 
-pub returns : goal.returns
-returns c = overfull-says _ _ (c.details_in.ensures)
+pub returns-clause-overfull : goal.returns-clause-overfull
+returns-clause-overfull c = rw c.overflows.ensures.overflows (overfull-tested _ _ c.details_in.ensures)

@@ -1,0 +1,8 @@
+-- `loader::slot::U32Slot::room` meets its contract.
+-- Assumes nothing.
+use mathlib.Core.Path.{sym}
+use Rattle.loader.proofs.Reports.{entries-count}
+use Rattle.loader.proofs.slot.U32Slot.room.Goals as goal
+
+pub returns : goal.returns
+returns c = sym (entries-count _ c.args.report.now)

@@ -1,0 +1,9 @@
+-- `registry::Index::id_of` meets its contract.
+-- Assumes nothing.
+use native.Mathlib.Omega.{arith}
+use Rattle.registry.proofs.Laws.{meters-most}
+use Rattle.registry.proofs.Halves.{id-within, id-here}
+use Rattle.registry.proofs.Index.id_of.Goals as goal
+
+pub offset_bounds-self-inside-meter : goal.offset_bounds-self-inside-meter
+offset_bounds-self-inside-meter c = omega (arith, meters-most c.args.self.now, c.requires)

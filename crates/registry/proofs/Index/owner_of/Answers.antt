@@ -1,0 +1,9 @@
+-- `registry::Index::owner_of` meets its contract.
+-- Assumes nothing.
+use native.Mathlib.Omega.{arith}
+use Rattle.registry.proofs.Laws.{meters-most}
+use Rattle.registry.proofs.Halves.{owner-within, owner-here}
+use Rattle.registry.proofs.Index.owner_of.Goals as goal
+
+pub offset_bounds-self-inside-meter : goal.offset_bounds-self-inside-meter
+offset_bounds-self-inside-meter c = omega (arith, meters-most c.args.self.now, c.requires)
