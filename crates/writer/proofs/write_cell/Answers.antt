@@ -8,7 +8,9 @@ use Rattle.writer.proofs.Answers.{put_front, cell-text, cell-most}
 use Rattle.writer.proofs.write_cell.Goals as goal
 
 pub overflow_add-window : goal.overflow_add-window
-overflow_add-window c = omega (arith, c.requires.day, (sound-window _ c.window.ensures.1).ends, ap (λ w. w.first) c.window.ensures.0)
+overflow_add-window c =
+    let window = sound-window _ c.window.ensures.1 in
+    omega (arith, c.requires.day, window.few, window.ends, ap (λ w. w.first) c.window.ensures.0, ap (λ w. w.days) c.window.ensures.0)
 
 pub put_record-n-requires-clause-room : goal.put_record-n-requires-clause-room
 put_record-n-requires-clause-room c =
