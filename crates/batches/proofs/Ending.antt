@@ -23,7 +23,7 @@ use Rattle.records.specs.declared.Parts.{Parts}
 use Rattle.units.specs.declared.LineRead.{LineRead}
 use Rattle.units.specs.Answer.{unit_of, told, told_by, Tells, Does}
 use Rattle.pieces.specs.declared.Scan.{Scan as KeptScan}
-use Rattle.pieces.specs.Ran.{scan_of, batch_words}
+use Rattle.pieces.specs.Ran.{scan_of, Puts}
 use Rattle.batches.specs.Batch.{lines_in}
 
 -- what some events tell, and then others behind them, is what all of them tell
@@ -41,13 +41,9 @@ unfolding end_at last_line step_line step_kind kind_of
 end_line R [] n u = refl
 end_line R (b ∷ k) n u = refl
 
--- what `put` says
-abbrev Put : ℕ → Words → Option Entry → ℕ → Words → Type 0
-Put n out said n' out' = (first_entries n' out' ≡ first_entries n out ++ told said) × (n ≤ n') × (n' ≤ n + 1) × (length out' ≡ batch_words)
-
 -- three verdicts put, one behind the other
 pub three-put : (first second last : Option Entry) (out₀ out₁ out₂ out₃ : Words) (n₁ n₂ n₃ : ℕ)
-    → Put 0 out₀ first n₁ out₁ → Put n₁ out₁ second n₂ out₂ → Put n₂ out₂ last n₃ out₃
+    → Puts 0 out₀ first n₁ out₁ → Puts n₁ out₁ second n₂ out₂ → Puts n₂ out₂ last n₃ out₃
     → first_entries n₃ out₃ ≡ (told first ++ told second) ++ told last
 unfolding first_entries
 three-put first second last out₀ out₁ out₂ out₃ n₁ n₂ n₃ a b c = c.0 ∙ rw (b.0, a.0)

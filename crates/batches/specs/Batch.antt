@@ -1,7 +1,7 @@
 -- The batches that a call works in: each reads some lines of the piece, or the end of the file, and holds their entries as words. It says only how the
 -- calls work; what a caller must believe is in loader/specs/Keeps.
 -- Assumes nothing.
-use Rattle.std.specs.Prelude.{◌≡◌, ℕ, zero, suc, ◌-◌, ◌<◌, ◌≤◌, length}
+use Rattle.std.specs.Prelude.{ℕ, zero, suc, ◌-◌, ◌<◌, ◌≤◌, length}
 use Rattle.report.specs.Words.{first_entries}
 use Rattle.lines.specs.End.{between}
 use Rattle.text.specs.Byte.{Bytes}

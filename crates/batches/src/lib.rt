@@ -1,6 +1,6 @@
 // The batches that a call works in: some lines of the piece are read, or the file ends, and the entries of their verdicts are held as words.
 //
-//     let batch = next_batch(&mut state.scan, piece, at, &index, table);     // the lines from place `at` on, as many as a batch has room for
+//     let batch = next_batch(&mut state.scan, piece, at, &mut index, table);     // the lines from place `at` on, as many as a batch has room for
 //     // batch.at is the place behind them; the first batch.count entries of batch.words belong behind those of the batches before
 //
 // A finish is one batch, `end_file`. What each leaves is specs/Batch.antt.
@@ -33,13 +33,14 @@ pub fn next_batch(
     scan: &mut Scan,
     piece: &[u8],
     at: usize,
-    index: &Index<'_>,
+    index: &mut Index<'_>,
     table: &mut [u32],
 ) -> Batch
-    requires room { HasRoom index.now table.old }
+    requires room { HasRoom index.old table.old }
     requires holds { Holds scan.old (length piece.now - at) }
     requires left { at < length piece.now }
-    ensures { Next index.now (scan_of scan.old) piece.now at result scan.new table.old table.new }
+    ensures index { index.new ≡ index.old }
+    ensures read { Next index.old (scan_of scan.old) piece.now at result scan.new table.old table.new }
 {
     let mut words = [0; BATCH_WORDS];
     let run = read_lines(scan, piece, at, index, table, &mut words);
@@ -77,7 +78,6 @@ pub fn end_file(scan: &mut Scan, index: &Index<'_>, table: &mut [u32]) -> Batch
         scan.lines + 1,
         line,
         index,
-        0,
         &mut scan.parts,
         table,
     );

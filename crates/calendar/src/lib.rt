@@ -11,6 +11,11 @@ mod months;
 
 use months::FIRST_DAYS;
 
+// The digits of a date YYYYMMDD, and of a time of day HHMMSS.
+pub const DATE_SIZE: usize = 8;
+
+pub const CLOCK_SIZE: usize = 6;
+
 const FIRST_YEAR: u32 = 2007;
 
 const LAST_YEAR: u32 = 2099;

@@ -1,6 +1,6 @@
 -- The cell at an address, stage by stage: what an index tells of its registry, and where a cell's words are.
 -- Assumes nothing.
-use mathlib.Core.Path.{◌≡◌, refl, sym}
+use mathlib.Core.Path.{◌≡◌, sym}
 use mathlib.Core.Bool.{Bool, true, false, cond, not, ◌&&◌}
 use mathlib.Core.Logic.{⊎_elim}
 use Prim.Native.Nat.{ℕ, suc, ◌+◌, ◌*◌, ◌<◌, ◌≤◌}
@@ -8,12 +8,13 @@ use native.Mathlib.Nat.{mul-le-mul_right, suc-mul}
 use native.Mathlib.Omega.{arith}
 use lib.Dec.{leb, ltb}
 use lib.ListN.{length}
-use borrow.Author.Tests.{ltb-false, lt-ltb, le-ltb, not-true, leb-true, leb-false}
+use borrow.Author.Tests.{ltb-false, not-true}
 use Rattle.calendar.specs.Day.{last_day, date_of}
 use Rattle.calendar.specs.Intervals.{intervals_on, intervals_of}
 use Rattle.calendar.specs.Answer.{intervals_of_day}
 use Rattle.calendar.proofs.Laws.{intervals-three}
 use Rattle.text.specs.Byte.{Bytes}
+use Rattle.text.proofs.Truth.{fits-tested}
 use Rattle.report.specs.Outcome.{passed, require}
 use Rattle.report.specs.Refusal.{bad_registry, short_table}
 use Rattle.report.proofs.Passing.{then_passed, require-passed}
@@ -34,14 +35,10 @@ module _ (reg : Bytes) (rules : is_registry reg ≡ true) (meters : ℕ) (w : Wi
   pub window-ends : w.first + w.days ≤ last_day + 1
   window-ends = rw ew (sound-window reg rules).ends
 
-  fits_by : (a b : ℕ) (t : Bool) → leb a b ≡ t → t ≡ not (ltb b a)
-  fits_by a b true e = rw (le-ltb b a (leb-true a b e))
-  fits_by a b false e = rw (lt-ltb b a (leb-false a b e))
-
   -- 3, as the code tests it
   pub table-tested : (cells size : ℕ) → cells ≡ cell_count meters w.days → for_table (is_registry reg) (cells_of reg) size ≡ require (leb (cells * width) size) short_table
   unfolding for_table
-  table-tested cells size e = rw (rules, e, em, ew, fits_by (cells_of reg * width) size (leb (cells_of reg * width) size) refl)
+  table-tested cells size e = rw (rules, e, em, ew, fits-tested (cells_of reg * width) size)
 
   -- 6, as the code tests it
   pub address-tested : (m c d : ℕ) → is_address reg m c d ≡ (ltb m meters && ltb c channels && ltb d w.days)

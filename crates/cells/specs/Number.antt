@@ -1,16 +1,10 @@
--- Cell numbers. Document 01, "Registry and cells": meter m from 0, channel c (load 0, generation 1), window day d from 0, D days: cell
--- number (m × 2 + c) × D + d.
+-- Cell numbers. Document 01, "Registry and cells": meter m from 0, channel c (load 0, generation 1:
+-- headers/specs/One `channel_number`), window day d from 0, D days: cell number (m × 2 + c) × D + d.
 -- Assumes nothing.
 use Rattle.std.specs.Prelude.{ℕ, ◌+◌, ◌*◌}
-use Rattle.headers.specs.declared.one.Channel.{Channel}
-use Rattle.headers.specs.declared.one.Channel.TheVariants.{Load, Generation}
 
 abbrev pub channels : ℕ
 channels = 2
-
-unfoldable pub channel_number : Channel → ℕ
-channel_number Load = 0
-channel_number Generation = 1
 
 -- of so many meters and days
 unfoldable pub cell_count : ℕ → ℕ → ℕ

@@ -1,5 +1,5 @@
-// The cells of a registry: how many there are, the number of one, and the cell at an address in the stages that calls ask for: registry and table (2, 3), address
-// (6), held (7), sound (8), each a function that the next one stands on. A cell that is found is that part of the table.
+// The cells of a registry: how many there are, the number of one, and the cell at an address in the stages that calls ask for: table (3), address (6), held (7),
+// sound (8), each a function that the next one stands on; that there is an index says that 2 does not refuse. A cell that is found is that part of the table.
 //
 // For whoever changes it: `cell_number` is the only place that knows the order of the cells; others go by its laws (proofs/Numbers.antt):
 // below the number of cells, and no two addresses alike.
@@ -9,13 +9,12 @@ ghost use Rattle.std.specs.Prelude.{◌≡◌, ◌+◌, ◌*◌, ◌<◌, ◌≤
 ghost use Rattle.report.specs.Outcome.{answers};
 ghost use Rattle.registry.specs.Registry.{max_meters, is_registry};
 ghost use Rattle.registry.specs.Entry.{max_days};
-ghost use Rattle.cells.specs.Number.{channels, channel_number, cell_count, cell_number};
+ghost use Rattle.cells.specs.Number.{channels, cell_count, cell_number};
 ghost use Rattle.cells.specs.Address.{cells_of, Sizes, Among};
 ghost use Rattle.cells.specs.Sound.{for_table, cell_for, held_cell, sound_cell, cell_says};
 
 use calendar::intervals_of;
 use cell::{Cell, Words};
-use headers::one::Channel;
 use reads::sound::is_sound;
 use reads::{cell_at, holds_none};
 use registry::Index;
@@ -30,16 +29,6 @@ pub struct Address {
     pub meter: usize,
     pub channel: usize,
     pub day: usize,
-}
-
-// Load is 0, generation 1.
-pub fn channel_number(channel: Channel) -> usize
-    ensures { (result ≡ channel_number channel) × (result < channels) }
-{
-    match channel {
-        Channel::Load => 0,
-        Channel::Generation => 1,
-    }
 }
 
 pub fn cell_count(meters: usize, days: usize) -> usize
@@ -105,8 +94,6 @@ pub fn find_sound<'a>(
 pub fn sound_cell<'a>(registry: &[u8], table: &'a [u32], at: Address) -> Result<&'a Words, Refusal>
     ensures { cell_says result ≡ sound_cell registry.now table.now at.meter at.channel at.day }
 {
-    let Some(index) = Index::of(registry) else {
-        return Err(Refusal::BadRegistry);
-    };
+    let index = Index::of(registry).ok_or(Refusal::BadRegistry)?;
     find_sound(&index, table, at)
 }

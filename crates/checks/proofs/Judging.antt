@@ -2,15 +2,15 @@
 -- Assumes nothing.
 use mathlib.Core.Path.{◌≡◌, refl}
 use mathlib.Core.Bool.{Bool, true, false, cond}
-use Prim.Native.Nat.{ℕ, ◌+◌, ◌-◌, ◌<◌, ◌≤◌}
+use Prim.Native.Nat.{ℕ, ◌+◌, ◌-◌, ◌≤◌}
 use native.Mathlib.Omega.{arith}
 use lib.Dec.{ltb}
 use borrow.Author.Tests.{le-leb, lt-leb, lt-ltb, le-ltb, ltb-true, ltb-false}
 use Rattle.calendar.specs.Date.{is_date}
 use Rattle.calendar.specs.Day.{day_number}
 use Rattle.calendar.specs.Answer.{day_is}
-use Rattle.std.specs.Prelude.{Option, Some, None}
-use Rattle.report.specs.Outcome.{Outcome, passed, refused, require, ◌>>◌}
+use Rattle.std.specs.Prelude.{Some, None}
+use Rattle.report.specs.Outcome.{passed, refused, require, ◌>>◌}
 use Rattle.report.specs.Verdict.{outside_window}
 use Rattle.registry.specs.declared.entry.Window.{Window}
 use Rattle.checks.specs.Check.{in_window, day_in}

@@ -19,7 +19,7 @@ use Rattle.registry.specs.Index.{meter_at, find_meter}
 use Rattle.registry.specs.declared.entry.Window.{Window}
 use Rattle.std.specs.Prelude.{Option, Some, None}
 use Rattle.registry.proofs.Halves.{found-meter}
-use Rattle.checks.specs.Check.{in_window, flag_checks, day_in, meter_checks, Judgement, Passed, of_meter, by_meter, judge}
+use Rattle.checks.specs.Check.{in_window, flag_checks, day_in, meter_checks, Passed, of_meter, by_meter, judge}
 
 day-within : (w : Window) (date d : ℕ) → day_in w date ≡ passed d → d < w.days
 unfolding day_in in_window

@@ -4,9 +4,7 @@
 #![tactic(auto)]
 
 ghost use Rattle.std.specs.Prelude.{◌≡◌, ◌<◌, length};
-ghost use Rattle.text.specs.Identifier.{esi_id_size};
 ghost use Rattle.report.specs.Outcome.{says};
-ghost use Rattle.registry.specs.Entry.{owner_size};
 ghost use Rattle.registry.specs.Registry.{meters_of, window_is};
 ghost use Rattle.registry.specs.Index.{meter_at};
 ghost use Rattle.checks.specs.Check.{has_flag, flag_checks, day_in, meter_checks, judged_says, judge as judged};
@@ -16,6 +14,7 @@ use registry::Index;
 use registry::entry::Window;
 use report::require;
 use report::verdict::{Fault, Verdict};
+use text::names::{DUNS_SIZE, ESI_ID_SIZE};
 
 const ERCOT_FLAG: u8 = 1;
 
@@ -48,20 +47,20 @@ fn flag_checks(sum: u8) -> Result<(), Verdict>
 fn window_day(window: Window, date: u32) -> Result<usize, Verdict>
     ensures { says result ≡ day_in window date }
 {
-    let Some(n) = day_number(date) else {
-        return Err(Verdict::OutsideWindow);
-    };
-    let Some(day) = n.checked_sub(window.first) else {
-        return Err(Verdict::OutsideWindow);
-    };
+    let n = day_number(date).ok_or(Verdict::OutsideWindow)?;
+    let day = n.checked_sub(window.first).ok_or(Verdict::OutsideWindow)?;
     require(day < window.days, Verdict::OutsideWindow)?;
     Ok(day as usize)
 }
 
 // The checks of a known meter; they give the window day.
-fn meter_checks(index: &Index<'_>, meter: usize, sender: &[u8], date: u32) -> Result<usize, Verdict>
-    requires within { meter < length (meters_of index.now) }
-    requires sized { length sender.now ≡ owner_size }
+fn meter_checks(
+    index: &Index<'_>,
+    meter: usize,
+    sender: &[u8; DUNS_SIZE],
+    date: u32,
+) -> Result<usize, Verdict>
+    requires { meter < length (meters_of index.now) }
     ensures { says result ≡ meter_checks (window_is index.now) (meter_at index.now meter) sender.now date }
 {
     require(index.is_owned(meter, sender), Verdict::NotOwner)?;
@@ -69,21 +68,16 @@ fn meter_checks(index: &Index<'_>, meter: usize, sender: &[u8], date: u32) -> Re
     window_day(index.window(), date)
 }
 
-// The checks of a record: by its ESI ID and Sender, padded as in the registry, and its date. The hint is the meter to try first.
+// The checks of a record: by its ESI ID and Sender, padded as in the registry, and its date.
 pub fn judge(
     index: &Index<'_>,
-    hint: usize,
-    id: &[u8],
-    sender: &[u8],
+    id: &[u8; ESI_ID_SIZE],
+    sender: &[u8; DUNS_SIZE],
     date: u32,
 ) -> Result<Cleared, Fault>
-    requires id_sized { length id.now ≡ esi_id_size }
-    requires sender_sized { length sender.now ≡ owner_size }
     ensures { judged_says result ≡ judged index.now id.now sender.now date }
 {
-    let Some(meter) = index.find(hint, id) else {
-        return Err(Fault::from(Verdict::UnknownMeter));
-    };
+    let meter = index.find(id).ok_or(Verdict::UnknownMeter)?;
     match meter_checks(index, meter, sender, date) {
         Ok(day) => Ok(Cleared { meter, day }),
         Err(verdict) => Err(Fault {

@@ -2,17 +2,19 @@
 -- Assumes nothing.
 use mathlib.Core.Path.{◌≡◌, refl, ap, sym, ◌∙◌}
 use mathlib.Core.List.{[], ◌∷◌}
-use mathlib.Core.Bool.{Bool, true, false, cond, ◌&&◌}
-use Prim.Native.Nat.{ℕ, ◌+◌, ◌*◌, ◌<◌, ◌≤◌}
+use mathlib.Core.Bool.{Bool, true, false, cond, not, ◌&&◌, and-true}
+use Prim.Native.Char.{code}
+use Prim.Native.Nat.{ℕ, zero, suc, ◌+◌, ◌*◌, ◌<◌, ◌≤◌}
 use native.Mathlib.Omega.{arith}
-use lib.Dec.{leb}
+use lib.Dec.{eqb, leb}
 use lib.ListN.{length, take, drop, get_or, length-take}
-use borrow.Author.Tests.{eq-eqb, ne_eqb, le-leb, lt-leb}
-use Rattle.text.specs.Byte.{Bytes, is_digit, every}
+use borrow.Author.Tests.{eq-eqb, ne_eqb, le-leb, lt-leb, leb-true, leb-false, eqb-true, eqb-false}
+use Rattle.text.specs.Byte.{Bytes, ascii, is_digit, every, starts_with}
 use Rattle.text.specs.Number.{number, number_from, leading, behind, Digits}
-use Rattle.text.proofs.Left.{left-cons, left-none}
-use Rattle.text.proofs.Decimal.{run_take, run_drop, run_digits, run_stops}
-use Rattle.report.specs.Outcome.{passed, refused}
+use Rattle.text.proofs.Truth.{and_right}
+use Rattle.text.proofs.Decimal.{run_take, run_drop, run_digits}
+use Rattle.report.specs.Outcome.{Outcome, passed, refused, require, ◌>>◌}
+use Rattle.report.proofs.Passing.{test-passed}
 use Rattle.report.specs.Verdict.{negative, too_fine, no_value}
 use Rattle.details.specs.Value.{point, whole_digits, part_digits, is_negative, watt_hours, with_point, value_parts, value_of}
 
@@ -38,96 +40,94 @@ hours_none-by w (b ∷ p) h = absurd (omega (arith, h))
 pub hours_none : (w p : Bytes) (k : ℕ) → k ≡ number w → Digits part_digits p → (length p ≡ 3 → ⊥) → (length p ≡ 2 → ⊥) → (length p ≡ 1 → ⊥) → k * 1000 ≡ watt_hours w p
 hours_none w p k e d h3 h2 h1 = rw e (hours_none-by w p (omega (arith, d.short)))
 
+-- A test, as a reader makes it.
+tested : {A : Type 0} (t : Bool) (v : ℕ) (o : Outcome A) → cond t o (refused v) ≡ (require t v >> o)
+tested true v o = refl
+tested false v o = refl
+
+refused-first : {A : Type 0} (t : Bool) (v : ℕ) (o : Outcome A) → cond t (refused v) o ≡ (require (not t) v >> o)
+refused-first true v o = refl
+refused-first false v o = refl
+
+at-most : (n m : ℕ) → leb (m + 1) n ≡ not (leb n m)
+at-most n m = go (leb n m) refl
+  where
+    go : (t : Bool) → leb n m ≡ t → leb (m + 1) n ≡ not t
+    go true h = lt-leb (m + 1) n (omega (arith, leb-true n m h))
+    go false h = le-leb (m + 1) n (omega (arith, leb-false n m h))
+
+some : (n : ℕ) → leb 1 n ≡ not (eqb n 0)
+some zero = refl
+some (suc n) = rw (le-leb 1 (suc n) (omega arith), ne_eqb (suc n) 0 (λ e. omega (arith, e)))
+
 -- the first byte
-pub value_none : (f : Bytes) → length f ≡ 0 → refused no_value ≡ value_of f
-unfolding value_of value_parts is_negative leading behind
-value_none [] h = refl
-value_none (b ∷ f) h = absurd (omega (arith, h))
+minus : (f : Bytes) → is_negative f ≡ starts_with (ascii "-") f
+unfolding is_negative starts_with
+minus [] = refl
+minus (b ∷ f) = go (eqb b (code "-")) refl ∙ sym (and-true (eqb (code "-") b))
+  where
+    go : (t : Bool) → eqb b (code "-") ≡ t → t ≡ eqb (code "-") b
+    go true h = sym (eq-eqb (code "-") b (sym (eqb-true b (code "-") h)))
+    go false h = sym (ne_eqb (code "-") b (λ e. eqb-false b (code "-") h (sym e)))
 
-pub value_minus : (f : Bytes) → (length f ≡ 0 → ⊥) → get_or f 0 0 ≡ 45 → refused negative ≡ value_of f
-unfolding value_of is_negative
-value_minus [] h e = absurd (h refl)
-value_minus (b ∷ f) h e = rw (eq-eqb b 45 e)
+pub value-signed : (f : Bytes) (q : Bool) → q ≡ starts_with (ascii "-") f → value_of f ≡ (require (not q) negative >> value_parts (leading f) (behind f))
+unfolding value_of
+value-signed f q e = rw (minus f, ← e) (refused-first q negative (value_parts (leading f) (behind f)))
 
-not_negative : (f : Bytes) → (get_or f 0 0 ≡ 45 → ⊥) → is_negative f ≡ false
-unfolding is_negative
-not_negative [] h = refl
-not_negative (b ∷ f) h = ne_eqb b 45 h
+-- digits only
+ended : (whole rest : Bytes) → length rest < 1
+    → value_parts whole rest ≡ (require (leb 1 (length whole) && leb (length whole) whole_digits) no_value >> passed (watt_hours whole []))
+unfolding value_parts
+ended whole [] h = tested (leb 1 (length whole) && leb (length whole) whole_digits) no_value (passed (watt_hours whole []))
+ended whole (b ∷ rest) h = absurd (omega (arith, h))
 
-pub part-digits : (p : Bytes) (r : Bool) → r ≡ every is_digit p → r ≡ true → length p ≤ part_digits → Digits part_digits p
-part-digits p r e t h = record { short = h; clean = sym e ∙ t }
+-- another byte behind them: a point, or none
+fraction : (whole part : Bytes) → with_point whole part
+    ≡ (require (leb (length part) part_digits) too_fine
+    >> (require (leb 1 (length part) && leb (length whole) whole_digits) no_value >> passed (watt_hours whole part)))
+unfolding with_point
+fraction whole part =
+    rw (at-most (length part) part_digits, tested (leb 1 (length part) && leb (length whole) whole_digits) no_value (passed (watt_hours whole part)))
+    (refused-first (not (leb (length part) part_digits)) too_fine _ ∙ rw (not-not (leb (length part) part_digits)))
+  where
+    not-not : (t : Bool) → not (not t) ≡ t
+    not-not true = refl
+    not-not false = refl
 
-pub no_digits : (f p : Bytes) (w : ℕ) → w ≡ length f → p ≡ drop w f → Digits part_digits p
-unfolding every
-no_digits f p w h e = rw (e, left-none f w (omega arith)) (record { short = omega arith; clean = refl })
+pointed : (whole rest : Bytes) → 1 ≤ length rest → get_or rest 0 0 ≡ point
+    → value_parts whole rest ≡ (require (every is_digit (drop 1 rest)) no_value >> with_point whole (drop 1 rest))
+unfolding value_parts
+pointed whole [] h e = absurd (omega (arith, h))
+pointed whole (b ∷ rest) h e = rw (eq-eqb b point e) (tested (every is_digit rest) no_value (with_point whole rest))
 
--- w is the length of the run of digits, and whole is the run
-module _ (f whole : Bytes) (w : ℕ) (run : w ≡ length (leading f)) (ew : whole ≡ take w f) where
-  pub whole-digits : w ≤ whole_digits → Digits whole_digits whole
-  whole-digits h = record {
-    short = rw ew (simp length-take (omega arith));
-    clean = rw (ew, run, run_take f) (run_digits f);
-  }
+odd : (whole rest : Bytes) → 1 ≤ length rest → (get_or rest 0 0 ≡ point → ⊥) → value_parts whole rest ≡ refused no_value
+unfolding value_parts
+odd whole [] h e = absurd (omega (arith, h))
+odd whole (b ∷ rest) h e = rw (ne_eqb b point e)
+
+-- w is the length of the run of digits, whole is the run, and rest stands behind it
+module _ (f whole rest : Bytes) (w : ℕ) (run : w ≡ length (leading f)) (ew : whole ≡ take w f) where
+  pub whole-digits : (t : Bool) → passed tt ≡ require (t && leb w whole_digits) no_value → Digits whole_digits whole
+  whole-digits t h =
+      let short : w ≤ whole_digits = leb-true w whole_digits (and_right t (leb w whole_digits) (test-passed (t && leb w whole_digits) no_value h)) in
+      record { short = rw ew (simp length-take (omega (arith, short))); clean = rw (ew, run, run_take f) (run_digits f) }
 
   whole_length : length whole ≡ w
   whole_length = ap length (ew ∙ ap (λ n. take n f) run ∙ run_take f) ∙ sym run
 
-  parts : (get_or f 0 0 ≡ 45 → ⊥) → value_of f ≡ value_parts whole (drop w f)
-  unfolding value_of
-  parts h = rw (not_negative f h, ew, run, run_take f, run_drop f)
+  module _ (er : rest ≡ drop w f) where
+    parts : value_parts (leading f) (behind f) ≡ value_parts whole rest
+    parts = rw (ew, er, run, run_take f, run_drop f)
 
-  module _ (plus : get_or f 0 0 ≡ 45 → ⊥) where
-    -- digits only
-    pub value-long : w ≡ length f → whole_digits < w → refused no_value ≡ value_of f
-    unfolding value_parts
-    value-long h l = sym (parts plus ∙ rw (left-none f w (omega arith), whole_length, lt-leb w whole_digits l) (never (leb 1 w)))
-      where
-        never : (t : Bool) → cond (t && false) (passed (watt_hours whole [])) (refused no_value) ≡ refused no_value
-        never true = refl
-        never false = refl
+    pub value-whole : length rest < 1 → value_parts (leading f) (behind f) ≡ (require (leb 1 w && leb w whole_digits) no_value >> passed (watt_hours whole []))
+    value-whole h = parts ∙ (rw whole_length at (ended whole rest h))
 
-    pub value-whole : (p : Bytes) (n : ℕ) → (length f ≡ 0 → ⊥) → w ≡ length f → w ≤ whole_digits → p ≡ drop w f → n ≡ watt_hours whole p → passed n ≡ value_of f
-    unfolding value_parts
-    value-whole p n z h l ep e =
-        rw (e, ep)
-        (sym (parts plus ∙ rw (left-none f w (omega arith), whole_length, le-leb 1 w (omega arith), le-leb w whole_digits l)))
+    pub value-pointed : 1 ≤ length rest → get_or rest 0 0 ≡ point → (part : Bytes) (r : Bool) → r ≡ every is_digit part → part ≡ drop 1 rest
+        → value_parts (leading f) (behind f)
+        ≡ (require r no_value
+        >> (require (leb (length part) part_digits) too_fine
+        >> (require (not (eqb (length part) 0) && leb w whole_digits) no_value >> passed (watt_hours whole part))))
+    value-pointed h e part r er ep = parts ∙ rw (pointed whole rest h e, ← ep, ← er, fraction whole part, whole_length, some (length part))
 
-    -- another byte behind them, which is no point
-    pub value_odd : (w ≡ length f → ⊥) → (get_or f w 0 ≡ point → ⊥) → refused no_value ≡ value_of f
-    unfolding value_parts
-    value_odd h e = sym (parts plus ∙ rw (left-cons f w (run_stops f w run h), ne_eqb _ _ e))
-
-    -- a point, and part behind it
-    module _ (stops : w ≡ length f → ⊥) (dot : get_or f w 0 ≡ point) (part : Bytes) (ep : part ≡ drop (w + 1) f) (r : Bool) (er : r ≡ every is_digit part) where
-      pub value_unclean : r ≡ false → refused no_value ≡ value_of f
-      unfolding value_parts
-      value_unclean t = sym (parts plus ∙ rw (left-cons f w (run_stops f w run stops), eq-eqb _ _ dot, ← ep, ← er, t))
-
-      module _ (hr : r ≡ true) where
-        pointed : value_of f ≡ with_point whole part
-        unfolding value_parts
-        pointed = parts plus ∙ rw (left-cons f w (run_stops f w run stops), eq-eqb _ _ dot, ← ep, ← er, hr)
-
-        pub value_fine : part_digits < length part → refused too_fine ≡ value_of f
-        unfolding with_point
-        value_fine h = sym (pointed ∙ rw (le-leb (part_digits + 1) (length part) h))
-
-        pub value_bare : length part ≡ 0 → refused no_value ≡ value_of f
-        unfolding with_point
-        value_bare h = sym (pointed ∙ rw h)
-
-        pub value-wide : length part ≤ part_digits → whole_digits < w → refused no_value ≡ value_of f
-        unfolding with_point
-        value-wide g h =
-            sym (pointed ∙ rw (lt-leb (part_digits + 1) (length part) (omega arith), whole_length, lt-leb w whole_digits h) (never (leb 1 (length part))))
-          where
-            never : (t : Bool) → cond (t && false) (passed (watt_hours whole part)) (refused no_value) ≡ refused no_value
-            never true = refl
-            never false = refl
-
-        pub value-parts : (n : ℕ) → length part ≤ part_digits → (length part ≡ 0 → ⊥) → w ≤ whole_digits → n ≡ watt_hours whole part → passed n ≡ value_of f
-        unfolding with_point
-        value-parts n g z h en =
-            rw en
-            (sym (pointed
-            ∙ rw (lt-leb (part_digits + 1) (length part) (omega arith), le-leb 1 (length part) (omega arith), whole_length, le-leb w whole_digits h)))
+    pub value-odd : 1 ≤ length rest → (get_or rest 0 0 ≡ point → ⊥) → value_parts (leading f) (behind f) ≡ refused no_value
+    value-odd h e = parts ∙ odd whole rest h e

@@ -4,8 +4,9 @@ ghost use Rattle.text.specs.Number.{Digits};
 ghost use Rattle.report.specs.Outcome.{says};
 ghost use Rattle.details.specs.Value.{whole_digits, part_digits, watt_hours, value_of};
 
+use report::require;
 use report::verdict::Verdict;
-use text::bytes::all_digits;
+use text::bytes::{all_digits, begins};
 use text::fields::{behind, front};
 use text::numbers::{digits, number_of};
 
@@ -21,51 +22,32 @@ fn watt_hours(whole: &[u8], part: &[u8]) -> u32
 {
     let k = number_of(whole) * 1000;
     let n = number_of(part);
-    if part.len() == 3 {
-        return k + n;
+    match part.len() {
+        3 => k + n,
+        2 => k + n * 10,
+        1 => k + n * 100,
+        _ => k,
     }
-    if part.len() == 2 {
-        return k + n * 10;
-    }
-    if part.len() == 1 {
-        return k + n * 100;
-    }
-    k
 }
 
 // Watt hours.
 pub fn read_value(f: &[u8]) -> Result<u32, Verdict>
     ensures { says result ≡ value_of f.now }
 {
-    if f.len() == 0 {
-        return Err(Verdict::NoValue);
-    }
-    if f[0] == b'-' {
-        return Err(Verdict::Negative);
-    }
+    require(!begins(f, b"-"), Verdict::Negative)?;
     let w = digits(f);
     let whole = front(f, w);
-    if w == f.len() {
-        if WHOLE_DIGITS < w {
-            return Err(Verdict::NoValue);
+    match behind(f, w) {
+        [] => {
+            require((1 <= w) & (w <= WHOLE_DIGITS), Verdict::NoValue)?;
+            Ok(watt_hours(whole, &[]))
         }
-        return Ok(watt_hours(whole, behind(f, w)));
+        [b'.', part @ ..] => {
+            require(all_digits(part), Verdict::NoValue)?;
+            require(part.len() <= PART_DIGITS, Verdict::TooFine)?;
+            require(!part.is_empty() & (w <= WHOLE_DIGITS), Verdict::NoValue)?;
+            Ok(watt_hours(whole, part))
+        }
+        _ => Err(Verdict::NoValue),
     }
-    if f[w] != b'.' {
-        return Err(Verdict::NoValue);
-    }
-    let part = behind(f, w + 1);
-    if !all_digits(part) {
-        return Err(Verdict::NoValue);
-    }
-    if PART_DIGITS < part.len() {
-        return Err(Verdict::TooFine);
-    }
-    if part.len() == 0 {
-        return Err(Verdict::NoValue);
-    }
-    if WHOLE_DIGITS < w {
-        return Err(Verdict::NoValue);
-    }
-    Ok(watt_hours(whole, part))
 }

@@ -1,55 +1,87 @@
 -- Digits without the zeros in front.
 -- Assumes nothing.
-use mathlib.Core.Path.{◌≡◌, refl, ap, ◌∙◌}
-use mathlib.Core.List.{[], ◌∷◌}
-use mathlib.Core.Bool.{Bool, true, false, cond, not}
-use Prim.Native.Nat.{ℕ, zero, suc, ◌+◌, ◌-◌, ◌<◌, ◌≤◌}
+use mathlib.Core.Path.{◌≡◌, refl, ap, sym, ◌∙◌}
+use mathlib.Core.List.{[], ◌∷◌, ◌++◌, append_assoc, append-nil}
+use mathlib.Core.Bool.{Bool, true, false, cond}
+use Prim.Native.Nat.{ℕ, zero, suc, ◌+◌, ◌-◌, ◌*◌, ◌/◌, ◌%◌, ◌^◌, ◌<◌, ◌≤◌}
 use Prim.Native.Char.{code}
-use native.Mathlib.Numerals.{one-add}
+use native.Mathlib.Nat.{add-zero, add-suc}
+use native.Mathlib.Numerals.{add-one}
 use native.Mathlib.Omega.{arith}
-use lib.Dec.{eqb, ltb}
-use lib.ListN.{length, take, drop, length-take, length-drop}
-use lib.Seq.{take_all}
-use borrow.Author.Tests.{ltb-false}
-use Rattle.std.specs.Prelude.{Some, None, position}
+use lib.Dec.{eqb}
+use lib.ListN.{length, replicate}
+use borrow.Author.Tests.{ne_eqb}
+use Rattle.std.specs.Prelude.{Option, Some, None, IfSome, IfNone}
 use Rattle.std.specs.Option.{unwrap_or}
-use Rattle.std.specs.List.{position_or_len}
-use Rattle.std.proofs.lemmas.List.Sums.{prefix_len-le-length}
+use Rattle.std.proofs.lemmas.List.{replicate-append-replicate}
 use Rattle.text.specs.Byte.{Bytes}
 use Rattle.text.specs.Number.{digits_of}
 use Rattle.text.proofs.DigitsOf.{digits-length}
-use Rattle.digits.specs.Put.{Room, Put}
-use Rattle.digits.specs.Decimal.{is_nonzero, trimmed, decimal, most_digits}
+use Rattle.digits.specs.Decimal.{trimmed, decimal, most_digits}
 
--- the digits behind the zeros in front of the last one
-from-front : (s : Bytes) (last : ℕ) → length s ≡ suc last → drop (position_or_len is_nonzero (take last s)) s ≡ trimmed s
+zeros-only : (j : ℕ) → digits_of j 0 ≡ replicate j 48
+unfolding digits_of
+zeros-only zero = refl
+zeros-only (suc j) =
+    ap (λ (s : Bytes). s ++ 48 ∷ []) (zeros-only j) ∙ replicate-append-replicate j 1 48 ∙ ap (λ (k : ℕ). replicate k 48) (add-one j)
+
+-- a number's digits behind as many zeros as there is room for
+zeros-front : (j w n : ℕ) → n < 10 ^ w → digits_of (j + w) n ≡ replicate j 48 ++ digits_of w n
+unfolding digits_of
+zeros-front j zero n h =
+    let e : n ≡ 0 = omega arith in
+    rw (e, add-zero j) (zeros-only j ∙ sym (append-nil (replicate j 48)))
+zeros-front j (suc w) n h =
+    rw (add-suc j w) (ap (λ (s : Bytes). s ++ (48 + n % 10) ∷ []) (zeros-front j w (n / 10) (omega arith)) ∙ append_assoc (replicate j 48) (digits_of w (n / 10)) ((48 + n % 10) ∷ []))
+
+-- zeros in front of another digit
+zeros-off : (j d : ℕ) (s : Bytes) → trimmed (replicate j 48 ++ d ∷ s) ≡ trimmed (d ∷ s)
 unfolding trimmed
-from-front (d ∷ []) zero l = refl
-from-front (d ∷ e ∷ s) (suc last) l =
-    one_more (eqb d (code "0")) (position_or_len is_nonzero (take last (e ∷ s))) (from-front (e ∷ s) last (omega arith))
-  where
-    one_more : (z : Bool) (n : ℕ) → drop n (e ∷ s) ≡ trimmed (e ∷ s) → drop (cond (not (not z)) (1 + n) 0) (d ∷ e ∷ s) ≡ cond z (trimmed (e ∷ s)) (d ∷ e ∷ s)
-    one_more true n q = rw one-add q
-    one_more false n q = refl
-from-front [] last l = absurd (omega arith)
-from-front (d ∷ []) (suc last) l = absurd (omega arith)
-from-front (d ∷ e ∷ s) zero l = absurd (omega arith)
+zeros-off zero d s = refl
+zeros-off (suc zero) d s = refl
+zeros-off (suc (suc j)) d s = zeros-off (suc j) d s
 
-position-or : (s : Bytes) (k : ℕ) → length s ≡ k → unwrap_or (position is_nonzero s) k ≡ position_or_len is_nonzero s
-position-or s k l = at (ltb (position_or_len is_nonzero s) (length s)) refl
-  where
-    at : (t : Bool) → ltb (position_or_len is_nonzero s) (length s) ≡ t → unwrap_or (cond t (Some (position_or_len is_nonzero s)) None) k ≡ position_or_len is_nonzero s
-    at true e = refl
-    at false e = omega (arith, ltb-false _ _ e, prefix_len-le-length (λ d. not (is_nonzero d)) s)
+-- the first digit of a number that fills them
+record First (n k : ℕ) : Type 0 where
+  pub digit : ℕ
+  pub rest : Bytes
+  pub are : digits_of (suc k) n ≡ digit ∷ rest
+  pub nonzero : digit ≡ 48 → ⊥
 
--- what the code looks for
-pub first_digit_is : (s : Bytes) (r : ℕ) → 0 < length s → r ≡ unwrap_or (position is_nonzero (take (length s - 1) s)) (length s - 1)
-    → (r < length s) × (drop r s ≡ trimmed s)
-first_digit_is s r some is =
-    let front : Bytes = take (length s - 1) s in
-    let l : length front ≡ length s - 1 = rw length-take (omega arith) in
-    let e : r ≡ position_or_len is_nonzero front = is ∙ position-or front (length s - 1) l in
-    (omega (arith, prefix_len-le-length (λ d. not (is_nonzero d)) front), rw e (from-front s (length s - 1) (omega arith)))
+one_more : (k n : ℕ) → First (n / 10) k → First n (suc k)
+unfolding digits_of
+one_more k n f =
+    record { digit = f.digit; rest = f.rest ++ (48 + n % 10) ∷ []; are = ap (λ (s : Bytes). s ++ (48 + n % 10) ∷ []) f.are; nonzero = f.nonzero }
+
+first : (k n : ℕ) → 10 ^ k ≤ n → n < 10 * 10 ^ k → First n k
+unfolding digits_of
+first zero n low high = record { digit = 48 + n % 10; rest = []; are = refl; nonzero = λ e. omega (arith, e) }
+first (suc k) n low high = one_more k n (first k (n / 10) (omega arith) (omega arith))
+
+full : (d : ℕ) (s : Bytes) → (d ≡ 48 → ⊥) → trimmed (d ∷ s) ≡ d ∷ s
+unfolding trimmed
+full d [] h = refl
+full d (e ∷ s) h = rw (ne_eqb d 48 h)
+
+fitting : (k n : ℕ) → k < most_digits → 10 ^ k ≤ n → n < 10 * 10 ^ k → decimal n ≡ digits_of (suc k) n
+unfolding decimal
+fitting k n few low high =
+    let f : First n k = first k n low high in
+    let j : ℕ = 9 - k in
+    let width : j + suc k ≡ most_digits = omega arith in
+    ap (λ (w : ℕ). trimmed (digits_of w n)) (sym width)
+    ∙ ap trimmed (zeros-front j (suc k) n (omega arith) ∙ ap (λ (s : Bytes). replicate j 48 ++ s) f.are)
+    ∙ zeros-off j f.digit f.rest ∙ full f.digit f.rest f.nonzero ∙ sym f.are
+
+-- how many digits a number has, by the power of ten that it reaches
+pub size_is : (n : ℕ) (power : Option ℕ) → IfNone power (n ≡ 0) → IfSome power (λ k. 10 ^ k ≤ n) → IfSome power (λ k. n < 10 * 10 ^ k)
+    → IfSome power (λ k. k < most_digits) → decimal n ≡ digits_of (unwrap_or power 0 + 1) n
+unfolding decimal digits_of trimmed
+size_is n None none low high few = rw none refl
+size_is n (Some k) none low high few = fitting k n few low high ∙ ap (λ (w : ℕ). digits_of w n) (sym (add-one k))
+
+pub decimal-length : (n size : ℕ) → decimal n ≡ digits_of size n → length (decimal n) ≡ size
+decimal-length n size e = ap length e ∙ digits-length size n
 
 no_longer : (b : Bool) (x y : Bytes) → length x ≤ length y → length (cond b x y) ≤ length y
 no_longer true x y h = h
@@ -64,16 +96,3 @@ trimmed-length (d ∷ e ∷ s) = no_longer (eqb d (code "0")) (trimmed (e ∷ s)
 pub decimal-short : (n : ℕ) → length (decimal n) ≤ most_digits
 unfolding decimal
 decimal-short n = omega (arith, trimmed-length (digits_of most_digits n), digits-length most_digits n)
-
--- the part of a number's digits that is put
-module _ (n r : ℕ) (digits : Bytes) (are : digits ≡ digits_of most_digits n) (from : drop r digits ≡ trimmed digits) where
-  part-is : take (most_digits - r) (drop r digits) ≡ decimal n
-  unfolding decimal
-  part-is =
-      take_all (most_digits - r) (drop r digits) (omega (arith, length-drop r digits, ap length are, digits-length most_digits n)) ∙ from ∙ ap trimmed are
-
-  pub decimal-room : (out : Bytes) (at : ℕ) → Room out at (decimal n) → Room out at (take (most_digits - r) (drop r digits))
-  decimal-room out at h = rw part-is h
-
-  pub decimal-put : {a b : Bytes} {at end : ℕ} → Put a at (take (most_digits - r) (drop r digits)) b end → Put a at (decimal n) b end
-  decimal-put p = rw part-is at p

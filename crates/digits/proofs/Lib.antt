@@ -1,4 +1,3 @@
 -- Laws of the definitions, by subject; each function's proof cites them.
 pub mod Fill
-pub mod Puts
 pub mod Decimal

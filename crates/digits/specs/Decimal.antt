@@ -1,12 +1,9 @@
 -- A number in decimal, as people write it.
 -- Assumes nothing.
-use Rattle.std.specs.Prelude.{[], ◌∷◌, Bool, cond, not, ℕ, eqb}
+use Rattle.std.specs.Prelude.{[], ◌∷◌, cond, ℕ, eqb}
 use Prim.Native.Char.{code}
 use Rattle.text.specs.Byte.{Bytes}
 use Rattle.text.specs.Number.{digits_of}
-
-abbrev pub is_nonzero : ℕ → Bool
-is_nonzero d = not (eqb d (code "0"))
 
 -- digits with no needless zero in front: the last one stays
 unfoldable pub trimmed : Bytes → Bytes

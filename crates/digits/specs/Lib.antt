@@ -1,3 +1,2 @@
--- Texts put into lent bytes, and numbers in decimal.
-pub mod Put
+-- Numbers in decimal.
 pub mod Decimal

@@ -1,30 +1,24 @@
-// Texts and the digits of numbers, put into lent bytes.
+// A text that grows in bytes of its own, and the digits of numbers in it.
 //
-//     let mut end = put(out, at, b"00000003,");     // the place behind it
-//     end = put_number(out, end, 8, date);          // the last eight digits of a number
-//     end = put_decimal(out, end, line);            // a number in decimal, no zeros in front
+//     let mut text = Text::<100>::new();        // of 100 bytes at most
+//     text.put(b"00000003,");                   // behind what it has
+//     text.put_number(8, date);                 // the last eight digits of a number
+//     text.put_decimal(line);                   // a number in decimal, no zeros in front
+//     text.bytes() ..
+//
+// In a clause a text is its bytes so far.
 //
 // For whoever changes it: a number's digits are `digits_of` of text/specs/Number.antt; `put_digits` is the only function that finds them.
 #![tactic(auto)]
 
-ghost use Rattle.std.specs.Prelude.{◌≡◌, ◌<◌, length, drop, position};
+ghost use Rattle.std.specs.Prelude.{◌≡◌, [], ◌++◌, ◌+◌, ◌≤◌, length};
 ghost use Rattle.text.specs.Number.{digits_of};
-ghost use Rattle.digits.specs.Put.{Room, Put};
-ghost use Rattle.digits.specs.Decimal.{is_nonzero, trimmed, decimal};
+ghost use Rattle.digits.specs.Decimal.{decimal};
+
+use std::marker::Model;
 
 // No number has more digits.
 pub const MOST_DIGITS: usize = 10;
-
-// Puts a text at a place; gives the place behind it.
-#[tactic(auto, using(crate::proofs::Puts::text_put))]
-pub fn put(out: &mut [u8], at: usize, text: &[u8]) -> usize
-    requires { Room out.old at text.now }
-    ensures { Put out.old at text.now out.new result }
-{
-    let end = at + text.len();
-    out[at..end].copy_from_slice(text);
-    end
-}
 
 // Fills bytes with the last digits of a number, as many as there are bytes.
 pub fn put_digits(to: &mut [u8], n: u32)
@@ -38,40 +32,85 @@ pub fn put_digits(to: &mut [u8], n: u32)
     }
 }
 
-// Puts the last `size` digits of a number at a place; gives the place behind them.
-#[tactic(auto, using(crate::proofs::Puts::number_put))]
-pub fn put_number(out: &mut [u8], at: usize, size: usize, n: u32) -> usize
-    requires { Room out.old at (digits_of size n) }
-    ensures { Put out.old at (digits_of size n) out.new result }
+// How many digits a number has in decimal: one at least. To put all ten digits and look for the first that is no zero would cost Write a twentieth.
+fn decimal_size(n: u32) -> usize
+    ensures { decimal n ≡ digits_of result n }
 {
-    let end = at + size;
-    put_digits(&mut out[at..end], n);
-    end
+    n.checked_ilog10().unwrap_or(0) as usize + 1
 }
 
-// The place of the first digit that is no zero.
-fn first_nonzero(digits: &[u8]) -> Option<usize>
-    ensures { result ≡ position is_nonzero digits.now }
-{
-    digits.iter().position(|d| *d != b'0')
+// A text of N bytes at most.
+#[derive(Drop)]
+pub struct Text<const N: usize> {
+    bytes: [u8; N],
+    end: usize,
 }
 
-// The place that digits are read from: behind the zeros in front, and at the last digit at most.
-fn first_digit(digits: &[u8]) -> usize
-    requires { 0 < length digits.now }
-    ensures { (result < length digits.now) × (drop result digits.now ≡ trimmed digits.now) }
-{
-    let last = digits.len() - 1;
-    first_nonzero(&digits[..last]).unwrap_or(last)
+impl<const N: usize> Model for Text<N> {
+    ghost use Rattle.std.specs.Prelude.{ℕ, List, ◌≤◌, take};
+
+    ghost Value = { List ℕ };
+
+    ghost view = { λ t. take t.end t.bytes };
+
+    ghost invariant = { λ t. t.end ≤ N };
 }
 
-// Puts a number in decimal at a place; gives the place behind it.
-pub fn put_decimal(out: &mut [u8], at: usize, n: u32) -> usize
-    requires { Room out.old at (decimal n) }
-    ensures { Put out.old at (decimal n) out.new result }
-{
-    let mut digits = [0; MOST_DIGITS];
-    put_digits(&mut digits, n);
-    let i = first_digit(&digits);
-    put(out, at, &digits[i..])
+impl<const N: usize> Text<N> {
+    pub fn new() -> Text<N>
+        ensures { result ≡ [] }
+    {
+        Text {
+            bytes: [0; N],
+            end: 0,
+        }
+    }
+
+    pub fn bytes(&self) -> &[u8]
+        ensures { result.now ≡ self.now }
+    {
+        &self.bytes[..self.end]
+    }
+
+    pub fn clear(&mut self)
+        ensures { self.new ≡ [] }
+    {
+        self.end = 0;
+    }
+
+    // How many bytes are free.
+    pub fn room(&self) -> usize
+        ensures { result + length self.now ≡ N }
+    {
+        N - self.end
+    }
+
+    pub fn put(&mut self, text: &[u8])
+        requires { length self.old + length text.now ≤ N }
+        ensures { self.new ≡ self.old ++ text.now }
+    {
+        let end = self.end + text.len();
+        let bytes = &mut self.bytes[..];
+        bytes[self.end..end].copy_from_slice(text);
+        self.end = end;
+    }
+
+    // Puts the last `size` digits of a number.
+    pub fn put_number(&mut self, size: usize, n: u32)
+        requires { length self.old + size ≤ N }
+        ensures { self.new ≡ self.old ++ digits_of size n }
+    {
+        let end = self.end + size;
+        let bytes = &mut self.bytes[..];
+        put_digits(&mut bytes[self.end..end], n);
+        self.end = end;
+    }
+
+    // Puts a number in decimal.
+    pub fn put_decimal(&mut self, n: u32)
+        requires { length self.old + length (decimal n) ≤ N }
+        ensures { self.new ≡ self.old ++ decimal n }
+    {
+        self.put_number(decimal_size(n), n);
+    }
 }

@@ -1,4 +1,4 @@
--- Bytes compared one by one with those that are due: the code at the front of a line; and four bytes at a place.
+-- Bytes compared one by one with those that are due: the code at the front of a line.
 -- Assumes nothing.
 use Rattle.std.proofs.Common.{◌≡◌, ℕ, ◌+◌, ◌≤◌, Bool, true, ◌&&◌, eqb, [], ◌∷◌, ◌++◌, length, get_or, take, drop, refl, arith, eqb-true}
 use Rattle.text.specs.Byte.{Bytes}
@@ -7,7 +7,7 @@ use Rattle.text.specs.Number.{digits_of}
 use Rattle.text.proofs.Truth.{and_left, and_right}
 use Rattle.text.proofs.Left.{left-cons}
 use Rattle.details.specs.Detail.{detail_code}
-use Rattle.direct.specs.Guess.{code_size, tail_size}
+use Rattle.direct.specs.Guess.{code_size}
 
 -- the bytes from i on are those of p: one test each, joined from the left
 abbrev tests : Bool → Bytes → ℕ → Bytes → Bool
@@ -24,10 +24,3 @@ tested joined t i (c ∷ p) l h =
 pub begins : (t : Bytes) (k : ℕ) → code_size ≤ length t → tests true t 0 (detail_code k ++ comma ∷ []) ≡ true → take code_size t ≡ detail_code k ++ comma ∷ []
 unfolding digits_of
 begins t k l h = (tested true t 0 (detail_code k ++ comma ∷ []) l h).1
-
--- four bytes at a place
-pub four-at : (t : Bytes) (i : ℕ) → i + tail_size ≤ length t → take tail_size (drop i t) ≡ get_or t i 0 ∷ get_or t (i + 1) 0 ∷ get_or t (i + 2) 0 ∷ get_or t (i + 3) 0 ∷ []
-four-at t i l =
-    let e₂ : i + 1 + 1 ≡ i + 2 = omega arith in
-    let e₃ : i + 2 + 1 ≡ i + 3 = omega arith in
-    rw (left-cons t i (omega arith), left-cons t (i + 1) (omega arith), e₂, left-cons t (i + 2) (omega arith), e₃, left-cons t (i + 3) (omega arith))

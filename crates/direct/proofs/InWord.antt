@@ -1,12 +1,15 @@
 -- The bytes of a word: what shifts, remainders and sums of the word do to them, and how a text and a value's digits stand in them.
 -- Assumes nothing.
-use Rattle.std.proofs.Common.{◌≡◌, ℕ, zero, suc, ◌+◌, ◌-◌, ◌*◌, ◌/◌, ◌%◌, ◌^◌, ◌<◌, ◌≤◌, [], ◌∷◌, ◌++◌, length, get_or, take, drop, refl, ap, ◌∙◌, lt_of_lt_of_le, mod-lt, mod-eq_of_lt, div-one, arith, drop-drop, take_at, take-add, drop_at, pow_pos, pow_mono, shr-shr}
+use Rattle.std.proofs.Common.{◌≡◌, ℕ, zero, suc, ◌+◌, ◌-◌, ◌*◌, ◌/◌, ◌%◌, ◌^◌, ◌<◌, ◌≤◌, ◌∷◌, ◌++◌, length, get_or, take, drop, refl, sym, ap, ◌∙◌, length-take, length-take-le, get_or-take, get_or-drop, Bool, true, false, lt_of_lt_of_le, mod-lt, div-one, arith, take_at, drop_at, pow_pos, pow_mono, shr-shr}
 use native.Mathlib.Nat.{div-eq_of_lt}
-use lib.Bits.{bit_or, or_shifted_r}
+use Rattle.std.specs.Int.{w64, to_le_bytes, from_le_bytes}
+use Rattle.std.proofs.lemmas.Nat.{le_bytes_8}
+use Rattle.std.proofs.lemmas.List.{get_or_past}
+use borrow.Author.Tests.{ltb-true, ltb-false}
+use lib.Dec.{ltb}
 use lib.Pow.{shl-shr, field, mod-mod-pow, high, low}
 use Rattle.text.specs.Byte.{Bytes}
-use Rattle.direct.specs.Guess.{bytes_of, Layout, Aligned}
-use Rattle.direct.proofs.Front.{four-at}
+use Rattle.direct.specs.Guess.{triple_size, bytes_of, Layout, Aligned}
 
 pub bytes-length : (k w : ℕ) → length (bytes_of k w) ≡ k
 unfolding bytes_of
@@ -65,25 +68,24 @@ bytes_cut j k w =
     bytes-add j k (w % 2 ^ (8 * j))
     ∙ rw (bytes_low j w, div-eq_of_lt (mod-lt w (pow_pos (8 * j))))
 
--- BYTES READ into a word of 32 bits, and two such words into one of 64
-pub four_bytes : (t : Bytes) (at n : ℕ) → at + 4 ≤ length t → ((i : ℕ) → get_or t i 0 < 256)
-    → n ≡ get_or t at 0 + get_or t (at + 1) 0 * 2 ^ 8 + get_or t (at + 2) 0 * 2 ^ 16 + get_or t (at + 3) 0 * 2 ^ 24 → bytes_of 4 n ≡ take 4 (drop at t)
+-- BYTES READ into a word
+eight-low : (n : ℕ) → to_le_bytes w64 n ≡ bytes_of 8 n
 unfolding bytes_of
-four_bytes t at n l small e =
-    let a = small at in
-    let b = small (at + 1) in
-    let c = small (at + 2) in
-    let d = small (at + 3) in
-    rw (four-at t at l) (cells (omega (arith, e, a)) (omega (arith, e, a, b)) (omega (arith, e, a, b, c)) (omega (arith, e, a, b, c, d)))
-  where
-    cells : {p q r s p' q' r' s' : ℕ} → p ≡ p' → q ≡ q' → r ≡ r' → s ≡ s' → ◌≡◌ {A = Bytes} (p ∷ q ∷ r ∷ s ∷ []) (p' ∷ q' ∷ r' ∷ s' ∷ [])
-    cells e f g h = rw (e, f, g, h)
+eight-low n = rw (shr-shr n 8 8, shr-shr n 16 8, shr-shr n 24 8, shr-shr n 32 8, shr-shr n 40 8, shr-shr n 48 8)
 
-pub eight-bytes : (t : Bytes) (at a b : ℕ) → bytes_of 4 a ≡ take 4 (drop at t) → bytes_of 4 b ≡ take 4 (drop (at + 4) t) → a < 2 ^ 32 → b < 2 ^ 32
-    → bytes_of 8 (bit_or a (b * 2 ^ 32 % 2 ^ 64)) ≡ take 8 (drop at t)
-eight-bytes t at a b h g ha hb =
-    let fits : b * 2 ^ 32 < 2 ^ 64 = omega (arith, hb) in
-    rw (mod-eq_of_lt fits, or_shifted_r b 32 a ha, bytes-join 4 4 b a ha, h, g, ← drop-drop 4 at t, take-add 4 4 (drop at t))
+-- a part of bytes that are small
+pub small-part : (t : Bytes) (at m i : ℕ) → ((i : ℕ) → get_or t i 0 < 256) → get_or (take m (drop at t)) i 0 < 256
+small-part t at m i small = go (ltb i m) refl
+  where
+    go : (b : Bool) → ltb i m ≡ b → get_or (take m (drop at t)) i 0 < 256
+    go true e = rw (get_or-take m (drop at t) i 0 (ltb-true i m e), get_or-drop at t i 0) (small (at + i))
+    go false e = rw (get_or_past (take m (drop at t)) i 0 (omega (arith, ltb-false i m e, length-take m (drop at t)))) (omega arith)
+
+pub eight-bytes : (t chunk : Bytes) (n : ℕ) → length t ≡ triple_size → chunk ≡ take 8 t → ((i : ℕ) → get_or t i 0 < 256)
+    → n ≡ from_le_bytes w64 chunk → bytes_of 8 n ≡ take 8 t
+eight-bytes t chunk n room same small e =
+    let long : length chunk ≡ 8 = ap length same ∙ length-take-le 8 t (omega (arith, room)) in
+    sym (eight-low n) ∙ le_bytes_8 chunk n long (λ i. rw same (small-part t 0 8 i small)) e ∙ same
 
 -- A VALUE'S DIGITS: the shifts that set them in line
 module _ (x n d : ℕ) (y : Layout n d) where

@@ -1,6 +1,6 @@
 -- A whole detail line, interval after interval, and that the row's rule gives the same for it.
 -- Assumes nothing.
-use Rattle.std.proofs.Common.{◌≡◌, ℕ, suc, ◌+◌, ◌*◌, ◌/◌, ◌%◌, ◌<◌, ◌≤◌, Bool, true, false, List, [], ◌∷◌, ◌++◌, length, get_or, take, drop, sym, refl, ap, ◌∙◌, append_assoc, append-nil, add-one, arith, length-take, length-take-le, get_or-take, take-suc, take-take, drop-drop, take-add, le-ltb, eq-eqb, Option, Some, None, set, length-set, take_all, slice_range, ◌-◌, length-drop}
+use Rattle.std.proofs.Common.{◌≡◌, ℕ, suc, ◌+◌, ◌*◌, ◌/◌, ◌%◌, ◌<◌, ◌≤◌, Bool, true, false, List, [], ◌∷◌, ◌++◌, length, get_or, take, drop, sym, refl, ap, ◌∙◌, append_assoc, append-nil, add-one, arith, length-take, length-take-le, get_or-take, take-suc, take-take, take-add, le-ltb, eq-eqb, Option, Some, None, set, length-set, take_all, slice_range, ◌-◌, length-drop}
 use Rattle.std.proofs.lemmas.List.{take_more_set}
 use Rattle.text.specs.Byte.{Bytes, every, equals, starts_with}
 use Rattle.text.specs.Field.{comma, cut, in_front}
@@ -18,7 +18,7 @@ use Rattle.details.specs.Detail.{per_row, detail_code, status_of, with_empty, in
 use Rattle.details.specs.declared.detail.Interval.{Interval}
 use Rattle.direct.specs.Direct.{DetailLine, direct_says}
 use Rattle.direct.specs.declared.Line.{Line}
-use Rattle.direct.specs.Guess.{code_size, span_size, tail_size, tail, status_byte, in_value, value_size, HasTriple, EndsAt}
+use Rattle.direct.specs.Guess.{code_size, span_size, tail_size, triple_size, tail, status_byte, in_value, HasTriple, EndsAt}
 use Rattle.text.proofs.Class.{every_append}
 use Rattle.direct.proofs.Every.{in_line, plain-comma, plain-line, line-lf, line-cr}
 
@@ -126,13 +126,16 @@ line-first : (k : ℕ) (t : Bytes) (r : Bool) → (r ≡ true → take code_size
 unfolding Gives
 line-first k t r h hr = record { rest = []; text = h hr; gives = refl }
 
-line_on : (k : ℕ) (t : Bytes) (at end : ℕ) (is : List Interval) (i : Interval) → LineSoFar k t at is → HasTriple t at i end → LineSoFar k t end (is ++ i ∷ [])
-line_on k t at end is i so_far h =
+-- `chunk` is the front of what is left
+line_on : (k : ℕ) (t chunk : Bytes) (at size : ℕ) (is : List Interval) (i : Interval) → LineSoFar k t at is → chunk ≡ take triple_size (drop at t)
+    → HasTriple chunk i size → LineSoFar k t (at + size) (is ++ i ∷ [])
+line_on k t chunk at size is i so_far front h =
     let n : ℕ = h.n in
     let x : Bytes = take (n + tail_size) (drop at t) in
-    let e : end ≡ at + (n + tail_size) = omega (arith, h.ends) in
-    let cut : x ≡ take n (drop at t) ++ tail (status_byte i.estimated) = rw (take-add n tail_size (drop at t), drop-drop n at t, h.behind) in
-    let next : Next x i [] = record { value = take n (drop at t); plain = h.value.plain; worth = h.value.value; text = cut } in
+    let e : size ≡ n + tail_size = h.ends in
+    let whole : take (n + tail_size) chunk ≡ x = rw front (take-take (n + tail_size) triple_size (drop at t) (omega (arith, h.value.short))) in
+    let cut : x ≡ take n chunk ++ tail (status_byte i.estimated) = sym whole ∙ rw (take-add n tail_size chunk, h.behind) in
+    let next : Next x i [] = record { value = take n chunk; plain = h.value.plain; worth = h.value.value; text = cut } in
     record {
       rest = so_far.rest ++ x;
       text = rw (e, take-add at (n + tail_size) t, so_far.text, append_assoc (detail_code k) (comma ∷ so_far.rest) x);
@@ -212,18 +215,20 @@ module _ (k : ℕ) (t : Bytes) (at : ℕ) (row : List Interval) (long : length r
 pub record RowSoFar (k : ℕ) (t : Bytes) (at i : ℕ) (row : List Interval) : Type 0 where
   pub long : length row ≡ per_row
   pub read : LineSoFar k t at (take i row)
-  pub near : at ≤ code_size + i * (value_size + tail_size)
+  pub near : at ≤ code_size + i * triple_size
 
 pub row-first : (k : ℕ) (t : Bytes) (r : Bool) → (r ≡ true → take code_size t ≡ detail_code k ++ comma ∷ []) → r ≡ true
     → (row : List Interval) → length row ≡ per_row → RowSoFar k t code_size 0 row
 row-first k t r h hr row long = record { long = long; read = line-first k t r h hr; near = omega arith }
 
 module _ (k : ℕ) (t : Bytes) (at i : ℕ) (row : List Interval) (so_far : RowSoFar k t at i row) where
-  pub row-on : i < per_row → (v : Interval) (end : ℕ) → HasTriple t at v end → RowSoFar k t end (i + 1) (set row i v)
-  row-on more v end h =
+  pub row-on : i < per_row → (chunk : Bytes) → chunk ≡ take (at + triple_size - at) (drop at t) → (v : Interval) (size : ℕ) → HasTriple chunk v size
+      → RowSoFar k t (at + size) (i + 1) (set row i v)
+  row-on more chunk is v size h =
+      let z : at + triple_size - at ≡ triple_size = omega arith in
       record {
         long = rw (length-set row i v) so_far.long;
-        read = rw (take_more_set row i v (omega (arith, so_far.long))) (line_on k t at end (take i row) v so_far.read h);
+        read = rw (take_more_set row i v (omega (arith, so_far.long))) (line_on k t chunk at size (take i row) v so_far.read (rw z at is) h);
         near = omega (arith, so_far.near, h.ends, h.value.short);
       }
 
@@ -246,11 +251,10 @@ wider k m n s is l =
     }
 
 -- `rest` is the piece from a place on, and `span` the front of it
-pub span-said : (piece rest span : Bytes) (at m : ℕ) (r : Option Line) (k : ℕ) → rest ≡ slice_range piece at (length piece) → span ≡ slice_range rest 0 m
+pub span-said : (piece rest span : Bytes) (at m : ℕ) (r : Option Line) (k : ℕ) → rest ≡ slice_range piece at (length piece) → span ≡ take m rest
     → direct_says r k span → direct_says r k (drop at piece)
 span-said piece rest span at m r k er es says =
-    let z : m - 0 ≡ m = omega arith in
-    go r (rw (es, er, z, take_all (length piece - at) (drop at piece) (simp length-drop (omega arith))) at says)
+    go r (rw (es, er, take_all (length piece - at) (drop at piece) (simp length-drop (omega arith))) at says)
   where
     go : (r : Option Line) → direct_says r k (take m (drop at piece)) → direct_says r k (drop at piece)
     go (Some line) h = wider k m line.size (drop at piece) line.row h

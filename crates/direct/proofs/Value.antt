@@ -1,6 +1,6 @@
 -- A value's text, digits with or without a point: what the rule makes of it, and that the reader's tests find such a text.
 -- Assumes nothing.
-use Rattle.std.proofs.Common.{◌≡◌, ℕ, zero, suc, ◌+◌, ◌-◌, ◌*◌, ◌^◌, ◌<◌, ◌≤◌, Bool, true, false, cond, not, ◌&&◌, eqb, leb, [], ◌∷◌, ◌++◌, map, length, get_or, take, drop, sym, refl, ap, ◌∙◌, append-nil, arith, length-drop, take-append-drop, length-take, length-take-le, get_or-drop, take-take, take-add, ne_eqb, eqb-true, le-leb, leb-true}
+use Rattle.std.proofs.Common.{◌≡◌, ℕ, zero, suc, ◌+◌, ◌-◌, ◌*◌, ◌^◌, ◌<◌, ◌≤◌, Bool, true, false, cond, not, ◌&&◌, eqb, leb, [], ◌∷◌, ◌++◌, map, length, get_or, take, drop, sym, refl, ap, ◌∙◌, append-nil, arith, length-drop, take-append-drop, length-take, length-take-le, take-take, take-add, ne_eqb, eqb-true, le-leb, leb-true}
 use Prim.Native.Char.{code}
 use lib.Bits.{bit_xor}
 use borrow.Author.Tests.{lt-leb, eqb-false, not-true}
@@ -12,11 +12,14 @@ use Rattle.text.proofs.Left.{left-cons, drop-take}
 use Rattle.text.proofs.Class.{digit_low}
 use Rattle.text.proofs.Comma.{field_take, field-within}
 use Rattle.text.proofs.Decimal.{run_take, run_drop, run_digits}
-use Rattle.report.specs.Outcome.{passed, refused}
+use Rattle.report.specs.Outcome.{passed, refused, says}
 use Rattle.report.specs.Verdict.{negative, no_value}
 use Rattle.details.specs.Value.{point, whole_digits, part_digits, is_negative, watt_hours, with_point, value_parts, value_of}
-use Rattle.direct.specs.Guess.{bytes_of, is_numeral, Layout, Aligned, Writes, BeginsValue, BeginsDigits, HasTriple, in_value, tail, status_byte, value_size, tail_size, word_size, whole_taken}
+use Rattle.direct.specs.Guess.{bytes_of, is_numeral, Layout, Aligned, Writes, BeginsValue, BeginsDigits, HasTriple, in_value, tail, status_byte, value_size, tail_size, triple_size, word_size, whole_taken}
 use Rattle.text.proofs.Class.{every_append}
+use Rattle.std.specs.Int.{w32, to_le_bytes, from_le_bytes}
+use Rattle.std.proofs.lemmas.Nat.{le_bytes_4}
+use Rattle.direct.proofs.InWord.{small-part}
 use Rattle.direct.proofs.Every.{digits-plain}
 use Rattle.direct.proofs.Numeral.{spread}
 use Rattle.direct.proofs.Digit.{less_zero, less-bytes, map-take, map-drop, both_write, whole-writes, part-writes, exact}
@@ -123,11 +126,8 @@ read_by s n d (suc m) whole part e l y g w v =
     }
 
 -- the reader's answer, wherever its guesses n and d point: w has the value's bytes, and a its digits
-module _ (t : Bytes) (at n d : ℕ) (room : at + value_size + tail_size ≤ length t) (r : Bool) (fits : r ≡ true → Layout n d)
-    (hr : r ≡ true) (w a : ℕ) (here : bytes_of 8 w ≡ take 8 (drop at t)) (line : Aligned n d (bit_xor w (spread 48 8)) a) where
-  abbrev s : Bytes
-  s = drop at t
-
+module _ (s : Bytes) (n d : ℕ) (room : length s ≡ triple_size) (r : Bool) (fits : r ≡ true → Layout n d)
+    (hr : r ≡ true) (w a : ℕ) (here : bytes_of 8 w ≡ take 8 s) (line : Aligned n d (bit_xor w (spread 48 8)) a) where
   abbrev m : ℕ
   m = n - d - 1
 
@@ -158,8 +158,8 @@ module _ (t : Bytes) (at n d : ℕ) (room : at + value_size + tail_size ≤ leng
         part-long,
       )
 
-  pub value_read : (x : ℕ) (b : Bool) → (0 < n - d → x ≡ point) → get_or t (at + d) 0 ≡ x → (b ≡ true → every is_numeral (bytes_of 8 a) ≡ true) → b ≡ true
-      → BeginsDigits (drop at t) a n
+  pub value_read : (x : ℕ) (b : Bool) → (0 < n - d → x ≡ point) → get_or s d 0 ≡ x → (b ≡ true → every is_numeral (bytes_of 8 a) ≡ true) → b ≡ true
+      → BeginsDigits s a n
   value_read x b g ex small hb =
       let short : length part ≤ 3 = omega (arith, part-long, y.part) in
       let all : every is_numeral (bytes_of 8 a) ≡ true = small hb in
@@ -167,7 +167,7 @@ module _ (t : Bytes) (at n d : ℕ) (room : at + value_size + tail_size ≤ leng
         numerals = all;
         value =
             rw (both_write (5 - d) whole part short (bytes_of 8 a) lined)
-            (read_by s n d (n - d) _ _ (omega (arith, y.inside)) (simp length-drop (omega (arith, y.whole, y.part))) y (λ l. get_or-drop at t d 0 ∙ ex ∙ g l)
+            (read_by s n d (n - d) _ _ (omega (arith, y.inside)) (omega (arith, y.whole, y.part)) y (λ l. ex ∙ g l)
             (whole-writes (5 - d) whole part short (bytes_of 8 a) lined all)
             (part-writes (5 - d) whole part short (bytes_of 8 a) lined all));
       }
@@ -194,33 +194,34 @@ value-plain f n h =
     plus false g = g
 
 -- f is what stands before the comma, and v the plain reader's answer
-pub long-read : (t : Bytes) (at wh : ℕ) (f : Bytes) → f ≡ first_field (take (at + value_size - at) (drop at t)) → passed wh ≡ value_of f
-    → BeginsValue (drop at t) wh (length f)
-long-read t at wh f e says =
-    let m : ℕ = at + value_size - at in
-    let s : Bytes = drop at t in
-    let inside : length f ≤ m = omega (arith, ap length e, field-within (take m s), length-take m s) in
-    let text : take (length f) s ≡ f = sym (take-take (length f) m s inside) ∙ rw e (sym (field_take (take m s))) in
+pub long-read : (s : Bytes) (wh : ℕ) (f : Bytes) → f ≡ first_field (take value_size s) → passed wh ≡ value_of f → BeginsValue s wh (length f)
+long-read s wh f e says =
+    let inside : length f ≤ value_size = omega (arith, ap length e, field-within (take value_size s), length-take value_size s) in
+    let text : take (length f) s ≡ f = sym (take-take (length f) value_size s inside) ∙ rw e (sym (field_take (take value_size s))) in
     let worth : value_of f ≡ passed wh = sym says in
-    record { short = omega arith; plain = rw text (value-plain f wh worth); value = rw text worth }
+    record { short = inside; plain = rw text (value-plain f wh worth); value = rw text worth }
 
 -- what stands behind a value, as a word
 abbrev tail_word : Bool → ℕ
 tail_word estimated = comma + status_byte estimated * 2 ^ 8 + comma * 2 ^ 16 + comma * 2 ^ 24
 
-tail-bytes : (estimated : Bool) → bytes_of 4 (tail_word estimated) ≡ tail (status_byte estimated)
-unfolding bytes_of
+tail-bytes : (e : Bool) → to_le_bytes w32 (tail_word e) ≡ tail (status_byte e)
 tail-bytes true = refl
 tail-bytes false = refl
 
-pub tail-read : (x : ℕ) (s : Bytes) (e : Bool) → bytes_of 4 x ≡ take 4 s → x ≡ tail_word e → take tail_size s ≡ tail (status_byte e)
-tail-read x s e word q = sym word ∙ rw q (tail-bytes e)
+pub tail-read : (t chunk : Bytes) (at x : ℕ) (e : Bool) → length t ≡ triple_size → at ≤ value_size → chunk ≡ take (at + 4 - at) (drop at t)
+    → ((i : ℕ) → get_or t i 0 < 256) → x ≡ from_le_bytes w32 chunk → x ≡ tail_word e → take tail_size (drop at t) ≡ tail (status_byte e)
+tail-read t chunk at x e room inside is small word q =
+    let z : at + 4 - at ≡ 4 = omega arith in
+    let same : chunk ≡ take 4 (drop at t) = rw z at is in
+    let long : length chunk ≡ 4 = ap length same ∙ length-take-le 4 (drop at t) (simp length-drop (omega (arith, room))) in
+    sym same ∙ sym (le_bytes_4 chunk x long (λ i. rw same (small-part t at 4 i small)) word) ∙ rw q (tail-bytes e)
 
 -- AN INTERVAL with such a value, of the answers of the readers of its parts
-module _ (t : Bytes) (at wh : ℕ) (f : Bytes) (e : f ≡ first_field (take (at + value_size - at) (drop at t))) (says : passed wh ≡ value_of f) where
+module _ (s : Bytes) (wh : ℕ) (f : Bytes) (e : f ≡ first_field (take value_size s)) (says : passed wh ≡ value_of f) where
   pub long-short : length f ≤ value_size
-  long-short = (long-read t at wh f e says).short
+  long-short = (long-read s wh f e says).short
 
-  pub long-done : (m : Bool) → take tail_size (drop (at + length f) t) ≡ tail (status_byte m)
-      → HasTriple t at (record { wh = wh; estimated = m }) (at + length f + tail_size)
-  long-done m behind = record { n = length f; value = long-read t at wh f e says; behind = behind; ends = refl }
+  pub long-done : (m : Bool) → take tail_size (drop (length f) s) ≡ tail (status_byte m)
+      → HasTriple s (record { wh = wh; estimated = m }) (length f + tail_size)
+  long-done m behind = record { n = length f; value = long-read s wh f e says; behind = behind; ends = refl }

@@ -38,9 +38,13 @@ tail status = comma ∷ status ∷ comma ∷ comma ∷ []
 abbrev pub tail_size : ℕ
 tail_size = 4
 
+-- the longest interval, with its commas
+abbrev pub triple_size : ℕ
+triple_size = value_size + tail_size
+
 -- the bytes that are looked at: the longest line that is taken, with CR and LF
 abbrev pub span_size : ℕ
-span_size = code_size + per_row * (value_size + tail_size) + 2
+span_size = code_size + per_row * triple_size + 2
 
 -- a value in a word may have n bytes, d of them before its point (all of them, if it has none): a point has a digit behind it
 pub record Layout (n d : ℕ) : Type 0 where
@@ -88,12 +92,12 @@ pub record BeginsDigits (s : Bytes) (w n : ℕ) : Type 0 where
   pub numerals : every is_numeral (bytes_of 8 w) ≡ true
   pub value : BeginsValue s (tens_from 0 (bytes_of 8 w)) n
 
--- an interval stands at a place and ends before `end`: a value of n bytes, status and empty field, with their commas
-pub record HasTriple (s : Bytes) (at : ℕ) (i : Interval) (end : ℕ) : Type 0 where
+-- the bytes begin with an interval of so many: a value of n bytes, status and empty field, with their commas
+pub record HasTriple (s : Bytes) (i : Interval) (size : ℕ) : Type 0 where
   pub n : ℕ
-  pub value : BeginsValue (drop at s) i.wh n
-  pub behind : take tail_size (drop (at + n) s) ≡ tail (status_byte i.estimated)
-  pub ends : end ≡ at + n + tail_size
+  pub value : BeginsValue s i.wh n
+  pub behind : take tail_size (drop n s) ≡ tail (status_byte i.estimated)
+  pub ends : size ≡ n + tail_size
 
 -- a line whose intervals end at a place has its LF at n: there, or behind a CR
 pub record EndsAt (s : Bytes) (at n : ℕ) : Type 0 where

@@ -1,10 +1,11 @@
-// The digits of a value at a place of the span, found without a loop: where its comma and its point stand is guessed from eight bytes at once,
+// The digits of a value at the front of an interval, found without a loop: where its comma and its point stand is guessed from eight bytes at once,
 // and then the point and the digits are tested. A wrong guess fails a test, so a guess owes nothing but its range.
-ghost use Rattle.std.specs.Prelude.{◌≡◌, ◌+◌, ◌-◌, ◌<◌, ◌≤◌, true, length, drop, IfSome};
+ghost use Rattle.std.specs.Prelude.{◌≡◌, ◌-◌, ◌<◌, ◌≤◌, true, IfSome};
 ghost use Rattle.details.specs.Value.{point};
-ghost use Rattle.direct.specs.Guess.{value_size, tail_size, word_size, Layout, BeginsDigits};
+ghost use Rattle.direct.specs.Guess.{word_size, Layout, BeginsDigits};
 
-use crate::word::{aligned, all_numerals, eight};
+use crate::TRIPLE;
+use crate::word::{aligned, all_numerals};
 use details::value::PART_DIGITS;
 
 // Digits before the point that a word has room for, beside those behind it.
@@ -45,19 +46,18 @@ fn stop_byte(f: usize) -> u8
     if f == 0 { b',' } else { b'.' }
 }
 
-// The digits of the value at a place, in line in one word, and how many bytes the value has; or it is for another reader. `word::number` makes
+// The digits of the value at the front, in line in one word, and how many bytes the value has; or it is for another reader. `word::number` makes
 // watt hours of them. A value that goes on behind the word is cut there: its comma will be missed.
-pub fn read_digits(t: &[u8], at: usize) -> Option<(u64, usize)>
-    requires { at + value_size + tail_size ≤ length t.now }
-    ensures { IfSome result (λ v. BeginsDigits (drop at t.now) v.0 v.1) }
+pub fn read_digits(t: &[u8; TRIPLE]) -> Option<(u64, usize)>
+    ensures { IfSome result (λ v. BeginsDigits t.now v.0 v.1) }
 {
-    let w = eight(t, at);
+    let w = u64::from_le_bytes(*t.first_chunk().unwrap());
     let n = guess(w, COMMAS);
     let d = guess(w, POINTS).min(n);
     if !has_layout(n, d) {
         return None;
     }
-    if t[at + d] != stop_byte(n - d) {
+    if t[d] != stop_byte(n - d) {
         return None;
     }
     let a = aligned(w ^ ZEROS, n, d);

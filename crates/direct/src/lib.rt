@@ -14,7 +14,7 @@
 // `inline(always)` the compiler leaves calls in it, and common lines load an eighth slower.
 #![tactic(auto)]
 
-ghost use Rattle.std.specs.Prelude.{◌≡◌, ◌+◌, ◌<◌, ◌≤◌, true, [], ◌∷◌, ◌++◌, length, take, drop, IfSome};
+ghost use Rattle.std.specs.Prelude.{◌≡◌, ◌+◌, ◌<◌, true, [], ◌∷◌, ◌++◌, take, drop, IfSome};
 ghost use Rattle.text.specs.Field.{comma};
 ghost use Rattle.details.specs.Detail.{detail_code};
 ghost use Rattle.direct.specs.Direct.{direct_says};
@@ -42,13 +42,15 @@ const CODE: usize = 9;
 // The longest value.
 const VALUE: usize = WHOLE_DIGITS + 1 + PART_DIGITS;
 
+// The longest interval, with its commas.
+const TRIPLE: usize = VALUE + TAIL;
+
 // The longest line that is taken, with CR and LF.
-const SPAN: usize = CODE + PER_ROW as usize * (VALUE + TAIL) + 2;
+const SPAN: usize = CODE + PER_ROW as usize * TRIPLE + 2;
 
 // Whether the span begins with the code of detail row k and a comma. Tried: `t.starts_with` of an array of these bytes. It is written byte by byte and
 // read at once as a word, for which the processor waits, and a realistic file loads 5 percent slower.
-fn begins_code(t: &[u8], k: u32) -> bool
-    requires { code_size ≤ length t.now }
+fn begins_code(t: &[u8; SPAN], k: u32) -> bool
     ensures { result ≡ true → take code_size t.now ≡ detail_code k ++ comma ∷ [] }
 {
     let tens = b'0' + (k / 10 % 10) as u8;
@@ -65,8 +67,8 @@ fn begins_code(t: &[u8], k: u32) -> bool
 }
 
 // Where the line has its LF whose intervals end at a place: there, or behind a CR; none, if it goes on.
-fn row_end(t: &[u8], at: usize) -> Option<usize>
-    requires { at + 1 < length t.now }
+fn row_end(t: &[u8; SPAN], at: usize) -> Option<usize>
+    requires { at + 1 < span_size }
     ensures { IfSome result (EndsAt t.now at) }
 {
     if t[at] == LF {
@@ -79,8 +81,7 @@ fn row_end(t: &[u8], at: usize) -> Option<usize>
 }
 
 // Detail line k, with its LF, at the front of the span.
-fn read_line(t: &[u8], k: u32) -> Option<Line>
-    requires { length t.now ≡ span_size }
+fn read_line(t: &[u8; SPAN], k: u32) -> Option<Line>
     ensures { direct_says result k t.now }
 {
     if !begins_code(t, k) {
@@ -88,10 +89,10 @@ fn read_line(t: &[u8], k: u32) -> Option<Line>
     }
     let mut row = [Interval::default(); PER_ROW as usize];
     let mut at = CODE;
-    for i in 0..row.len() {
-        let (interval, end) = read_triple(t, at)?;
-        row[i] = interval;
-        at = end;
+    for interval in row.iter_mut() {
+        let (read, size) = read_triple(t[at..at + TRIPLE].as_array().unwrap())?;
+        *interval = read;
+        at += size;
     }
     let size = row_end(t, at)?;
     Some(Line { row, size })
@@ -102,6 +103,6 @@ fn read_line(t: &[u8], k: u32) -> Option<Line>
 pub fn read_direct(piece: &[u8], at: usize, k: u32) -> Option<Line>
     ensures { direct_says result k (drop at piece.now) }
 {
-    let span = piece.get(at..)?.get(..SPAN)?;
+    let span = piece.get(at..)?.first_chunk()?;
     read_line(span, k)
 }

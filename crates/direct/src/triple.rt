@@ -1,10 +1,10 @@
-// Value, status and empty field of one interval, at a place of the span.
-ghost use Rattle.std.specs.Prelude.{◌≡◌, ◌+◌, ◌≤◌, length, take, drop, IfSome};
+// Value, status and empty field of one interval, at the front of as many bytes as the longest has.
+ghost use Rattle.std.specs.Prelude.{◌≡◌, ◌≤◌, take, drop, IfSome};
 ghost use Rattle.direct.specs.Guess.{value_size, tail_size, tail, status_byte, HasTriple};
 
-use crate::VALUE;
 use crate::guess::read_digits;
-use crate::word::{four, number};
+use crate::word::number;
+use crate::{TRIPLE, VALUE};
 use details::detail::Interval;
 use details::value::read_value;
 use text::fields::field;
@@ -16,12 +16,13 @@ const ACTUAL: u32 = 0x2c2c412c;
 
 const ESTIMATED: u32 = 0x2c2c452c;
 
-// Whether the value before a place is estimated, by what stands behind it.
-fn read_tail(t: &[u8], at: usize) -> Option<bool>
-    requires { at + tail_size ≤ length t.now }
+// Whether the value before a place is estimated, by what stands behind it. Tried: a `match` of the bytes against b",A,," and b",E,,". They are tested one
+// after the other, and a realistic file loads 8 percent slower.
+fn read_tail(t: &[u8; TRIPLE], at: usize) -> Option<bool>
+    requires { at ≤ value_size }
     ensures { IfSome result (λ e. take tail_size (drop at t.now) ≡ tail (status_byte e)) }
 {
-    let s = four(t, at);
+    let s = u32::from_le_bytes(*t[at..at + TAIL].as_array().unwrap());
     if s == ACTUAL {
         return Some(false);
     }
@@ -31,41 +32,33 @@ fn read_tail(t: &[u8], at: usize) -> Option<bool>
     None
 }
 
-// An interval with a value that a word holds, and the place behind.
+// An interval with a value that a word holds, and how many bytes it has.
 #[inline(always)]
-fn short_triple(t: &[u8], at: usize) -> Option<(Interval, usize)>
-    requires { at + value_size + tail_size ≤ length t.now }
-    ensures { IfSome result (λ i. HasTriple t.now at i.0 i.1) }
+fn short_triple(t: &[u8; TRIPLE]) -> Option<(Interval, usize)>
+    ensures { IfSome result (λ i. HasTriple t.now i.0 i.1) }
 {
-    let (w, n) = read_digits(t, at)?;
-    let behind = at + n;
-    let estimated = read_tail(t, behind)?;
+    let (w, n) = read_digits(t)?;
+    let estimated = read_tail(t, n)?;
     let wh = number(w);
-    Some((Interval { wh, estimated }, behind + TAIL))
+    Some((Interval { wh, estimated }, n + TAIL))
 }
 
 // An interval whose value is cut at its comma, however long it is. A rare call, so that a common line pays nothing for it.
 #[cold]
 #[inline(never)]
-fn long_triple(t: &[u8], at: usize) -> Option<(Interval, usize)>
-    requires { at + value_size + tail_size ≤ length t.now }
-    ensures { IfSome result (λ i. HasTriple t.now at i.0 i.1) }
+fn long_triple(t: &[u8; TRIPLE]) -> Option<(Interval, usize)>
+    ensures { IfSome result (λ i. HasTriple t.now i.0 i.1) }
 {
-    let end = at + VALUE;
-    let f = field(&t[at..end]);
-    let Ok(wh) = read_value(f) else {
-        return None;
-    };
-    let behind = at + f.len();
-    let estimated = read_tail(t, behind)?;
-    Some((Interval { wh, estimated }, behind + TAIL))
+    let f = field(&t[..VALUE]);
+    let wh = read_value(f).ok()?;
+    let estimated = read_tail(t, f.len())?;
+    Some((Interval { wh, estimated }, f.len() + TAIL))
 }
 
-// An interval, and the place behind; or it is for the plain reader.
+// An interval, and how many bytes it has; or it is for the plain reader.
 #[inline(always)]
-pub fn read_triple(t: &[u8], at: usize) -> Option<(Interval, usize)>
-    requires { at + value_size + tail_size ≤ length t.now }
-    ensures { IfSome result (λ i. HasTriple t.now at i.0 i.1) }
+pub fn read_triple(t: &[u8; TRIPLE]) -> Option<(Interval, usize)>
+    ensures { IfSome result (λ i. HasTriple t.now i.0 i.1) }
 {
-    short_triple(t, at).or_else(|| long_triple(t, at))
+    short_triple(t).or_else(|| long_triple(t))
 }

@@ -1,23 +1,7 @@
 // Bytes of a text as one number, a word, the first the lowest, and what is done to all of them at once: no loop, and no branch for each.
-ghost use Rattle.std.specs.Prelude.{◌≡◌, ◌+◌, ◌≤◌, true, length, take, drop};
+ghost use Rattle.std.specs.Prelude.{◌≡◌, true};
 ghost use Rattle.text.specs.Byte.{every};
 ghost use Rattle.direct.specs.Guess.{Layout, Aligned, bytes_of, is_numeral, tens_from};
-
-// Four bytes of a text. The compiler makes one load of it.
-pub fn four(t: &[u8], at: usize) -> u32
-    requires { at + 4 ≤ length t.now }
-    ensures { bytes_of 4 result ≡ take 4 (drop at t.now) }
-{
-    u32::from_le_bytes([t[at], t[at + 1], t[at + 2], t[at + 3]])
-}
-
-// Eight bytes.
-pub fn eight(t: &[u8], at: usize) -> u64
-    requires { at + 8 ≤ length t.now }
-    ensures { bytes_of 8 result ≡ take 8 (drop at t.now) }
-{
-    u64::from(four(t, at)) | (u64::from(four(t, at + 4)) << 32)
-}
 
 // A value's digits in line: of its n bytes the d before the point in bytes 0 to 4, with zeros before them, and those behind the point in
 // bytes 5 to 7, with zeros behind them. So the eight bytes write watt hours, however many digits there are.

@@ -1,17 +1,16 @@
 // The entries of a report as lines of text, for programs that print them.
 //
-//     let q = put_entries(&mut out, &report, i, count);      // the lines of entries i to i + q.entries, as many as there is room for
-//     rt.write_all(&out[0..q.end])?;
+//     i += put_entries(&mut text, &report, i, count);      // the lines of entries from i on, as many as there is room for
+//     rt.write_all(text.bytes())?;
 //
-// For whoever changes it: a line is `line_of` of specs/Listing.antt. Nothing here writes anywhere but into the lent bytes.
+// For whoever changes it: a line is `line_of` of specs/Listing.antt. Nothing here writes anywhere but into the text.
 #![tactic(auto)]
 
-ghost use Rattle.std.specs.Prelude.{◌+◌, ◌*◌, ◌≤◌, length};
-ghost use Rattle.digits.specs.Put.{Put};
+ghost use Rattle.std.specs.Prelude.{◌≡◌, ◌++◌, ◌+◌, ◌*◌, ◌<◌, ◌≤◌, length};
 ghost use Rattle.report.specs.Words.{per_entry};
-ghost use Rattle.entrytext.specs.Listing.{number_then, widest, line_of, longest, Lists};
+ghost use Rattle.entrytext.specs.Listing.{number_then, widest, line_of, longest, lines_from};
 
-use digits::{MOST_DIGITS, put, put_decimal};
+use digits::{MOST_DIGITS, Text};
 use report::Entry;
 use report::words::{PER_ENTRY, entry_at};
 
@@ -20,51 +19,46 @@ const WIDEST: usize = MOST_DIGITS + 1;
 
 pub const LONGEST: usize = PER_ENTRY * WIDEST;
 
-// How many entries were put, and the place behind them.
-#[derive(Clone, Copy, Debug, PartialEq, Eq)]
-pub struct Listed {
-    pub entries: usize,
-    pub end: usize,
+// Puts a number and the byte behind it.
+#[tactic(auto, using(crate::proofs::Listing::numbers))]
+fn put_then<const N: usize>(text: &mut Text<N>, n: u32, behind: u8)
+    requires { length text.old + widest ≤ N }
+    ensures { text.new ≡ text.old ++ number_then n behind }
+{
+    text.put_decimal(n);
+    text.put(&[behind]);
 }
 
-// Puts a number and the byte behind it; the place behind both.
-fn put_then(out: &mut [u8], at: usize, n: u32, behind: u8) -> usize
-    requires { at + widest ≤ length out.old }
-    ensures { Put out.old at (number_then n behind) out.new result × (result ≤ at + widest) }
+// Puts an entry's line.
+#[tactic(auto, using(crate::proofs::Listing::numbers), unfolding(crate::specs::Listing::line_of))]
+fn put_line<const N: usize>(text: &mut Text<N>, e: Entry)
+    requires { length text.old + longest ≤ N }
+    ensures { text.new ≡ text.old ++ line_of e }
 {
-    let end = put_decimal(out, at, n);
-    put(out, end, &[behind])
+    put_then(text, e.first, b' ');
+    put_then(text, e.verdict, b' ');
+    put_then(text, e.at, b' ');
+    put_then(text, e.meter, b' ');
+    put_then(text, e.day, b'\n');
 }
 
-// Puts an entry's line; the place behind it.
-fn put_line(out: &mut [u8], at: usize, e: Entry) -> usize
-    requires { at + longest ≤ length out.old }
-    ensures { Put out.old at (line_of e) out.new result }
+// Puts the lines of a report's entries, from one of them on up to `count`, as long as there is room for a longest line; gives how many.
+pub fn put_entries<const N: usize>(
+    text: &mut Text<N>,
+    report: &[u32],
+    from: usize,
+    count: usize,
+) -> usize
+    requires { (length text.old + longest ≤ N) × (from ≤ count) × (count * per_entry ≤ length report.now) }
+    ensures lines { text.new ≡ text.old ++ lines_from report.now from result }
+    ensures within { from + result ≤ count }
+    ensures some { from < count → 0 < result }
 {
-    let mut end = put_then(out, at, e.first, b' ');
-    end = put_then(out, end, e.verdict, b' ');
-    end = put_then(out, end, e.at, b' ');
-    end = put_then(out, end, e.meter, b' ');
-    put_then(out, end, e.day, b'\n')
-}
-
-// Puts the lines of a report's entries, from one of them on up to `count`, as long as there is room for a longest line.
-pub fn put_entries(out: &mut [u8], report: &[u32], from: usize, count: usize) -> Listed
-    requires { (longest ≤ length out.old) × (from ≤ count) × (count * per_entry ≤ length report.now) }
-    ensures { Lists report.now from count out.old out.new result }
-{
-    let mut end = 0;
     for n in from..count {
-        if out.len() - end < LONGEST {
-            return Listed {
-                entries: n - from,
-                end,
-            };
+        if text.room() < LONGEST {
+            return n - from;
         }
-        end = put_line(out, end, entry_at(report, n));
+        put_line(text, entry_at(report, n));
     }
-    Listed {
-        entries: count - from,
-        end,
-    }
+    count - from
 }

@@ -46,14 +46,17 @@ pub fn odd(rt: &impl Print, line: &[u8]) -> io::Result<()> {
     println!(rt; "{}: {} bytes", answer(&read), line.len())
 }
 
-pub fn two(rt: &impl Print, line: &str) -> io::Result<()> {
-    let read = read_two(whole(line.as_bytes()));
+// A row that gives nothing but its verdict.
+fn bare(rt: &impl Print, read: Result<(), Verdict>, line: &str) -> io::Result<()> {
     println!(rt; "{}: {line}", answer(&read))
 }
 
+pub fn two(rt: &impl Print, line: &str) -> io::Result<()> {
+    bare(rt, read_two(whole(line.as_bytes())), line)
+}
+
 pub fn three(rt: &impl Print, line: &str) -> io::Result<()> {
-    let read = read_three(whole(line.as_bytes()));
-    println!(rt; "{}: {line}", answer(&read))
+    bare(rt, read_three(whole(line.as_bytes())), line)
 }
 
 pub fn four(rt: &impl Print, line: &str) -> io::Result<()> {

@@ -11,6 +11,11 @@ use Rattle.headers.specs.Time.{time_of, is_below, is_whole_day}
 use Rattle.headers.specs.declared.one.Channel.{Channel}
 use Rattle.headers.specs.declared.one.Channel.TheVariants.{Load, Generation}
 
+-- Document 01, "Registry and cells": load 0, generation 1.
+unfoldable pub channel_number : Channel → ℕ
+channel_number Load = 0
+channel_number Generation = 1
+
 -- what row one gives
 pub record RowOne : Type 0 where
   pub esi_id : Bytes

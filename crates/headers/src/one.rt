@@ -2,7 +2,7 @@
 ghost use Rattle.std.specs.Prelude.{◌≡◌, length};
 ghost use Rattle.text.specs.Field.{cut};
 ghost use Rattle.report.specs.Outcome.{says};
-ghost use Rattle.headers.specs.One.{channel_of, day_of, one_of, row_one};
+ghost use Rattle.headers.specs.One.{channel_number, channel_of, day_of, one_of, row_one};
 ghost use Rattle.lines.specs.Answer.{line_of};
 ghost use Rattle.headers.specs.Answer.{one_says};
 
@@ -15,10 +15,20 @@ use text::bytes::same;
 use text::fields::{after, field};
 use text::names::is_esi_id;
 
+// By its number in a cell's address and in a state's words.
 #[derive(Clone, Copy, Debug, PartialEq, Eq)]
 pub enum Channel {
-    Load,
-    Generation,
+    Load = 0,
+    Generation = 1,
+}
+
+impl From<Channel> for u32 {
+    ghost from_gives = { λ c n. n ≡ channel_number c };
+
+    #[tactic(auto, unfolding(crate::specs::One::channel_number))]
+    fn from(c: Channel) -> u32 {
+        c as u32
+    }
 }
 
 // The ESI ID, the channel, and the day YYYYMMDD.

@@ -3,16 +3,15 @@ ghost use Rattle.std.specs.Prelude.{◌≡◌, ◌+◌, ◌*◌};
 ghost use Rattle.report.specs.Outcome.{says};
 ghost use Rattle.headers.specs.Time.{time_of, stamp_at, moment, is_below, stops_day, is_whole_day};
 
-use calendar::{is_clock, is_date};
+use calendar::{CLOCK_SIZE, DATE_SIZE, is_clock, is_date};
 use report::require;
 use report::verdict::Verdict;
 use text::bytes::all_digits;
 use text::fields::{behind, front};
 use text::numbers::number_of;
 
-const DATE_SIZE: usize = 8;
+const TIME_SIZE: usize = DATE_SIZE + CLOCK_SIZE;
 
-const TIME_SIZE: usize = 14;
 // 23:59:00. Row one is written with it (rowtext), and `usual::one` has its digits as bytes.
 pub const DAY_STOP: u32 = 235900;
 

@@ -1,2 +1,3 @@
 -- Laws of the definitions, by subject; each function's proof cites them.
 pub mod Small
+pub mod Crossing

@@ -10,12 +10,14 @@
 // length is refused 1. What the calls do is loader's, estimates' and writer's; here is only how it is asked and answered.
 #![tactic(auto)]
 
-ghost use Rattle.std.specs.Prelude.{◌≡◌, ◌^◌, ◌<◌, IfOk};
+ghost use Rattle.std.specs.Prelude.{◌≡◌, ◌^◌, ◌<◌, ℕ, IfOk};
 ghost use Rattle.report.specs.Outcome.{answers};
 ghost use Rattle.cell.specs.Layout.{word_bits};
 ghost use Rattle.estimates.specs.Estimates.{estimates_of};
 ghost use Rattle.writer.specs.Write.{writes, length_of, output_with};
 ghost use Rattle.plain.specs.Call.{feed as asks_feed, finish as asks_finish};
+ghost use Rattle.loader.specs.Keeps.{Keeps};
+ghost use Rattle.loader.specs.Report.{report_in, words_left};
 ghost use Rattle.kilnsorrel.specs.Border.{Packs, Freshens, Call};
 ghost use Rattle.kilnsorrel.specs.Private.{asked_of};
 
@@ -23,8 +25,8 @@ use cells::Address;
 use estimates::estimates;
 use loader::{feed, finish};
 use report::refusal::Refusal;
-use state::fresh;
-use statewords::{SPAN, STATE_WORDS, put_state, state_in};
+use state::{State, fresh};
+use statewords::{SPAN, put_state, state_in};
 use writer::write;
 
 // The refusal's number in the high half, or the count or length in the low one.
@@ -42,35 +44,46 @@ fn packed(answer: Result<usize, Refusal>) -> u64
 pub extern "C" fn kilnsorrel_fresh(state: &mut [u32]) -> u64
     ensures { Freshens state.old state.new result }
 {
-    if state.len() == STATE_WORDS {
-        put_state(state, &fresh());
-        return packed(Ok(0));
-    }
-    packed(Err(Refusal::BadState))
+    let Some(state) = state.as_mut_array() else {
+        return packed(Err(Refusal::BadState));
+    };
+    put_state(state, &fresh());
+    packed(Ok(0))
 }
 
 // A feed of a piece, or a finish.
+fn answer(
+    state: &mut State,
+    piece: Option<&[u8]>,
+    registry: &[u8],
+    table: &mut [u32],
+    report: &mut [u32],
+) -> Result<usize, Refusal>
+    ensures { Keeps report_in words_left registry.now state.old table.old (asked_of piece.entry) report.old result state.new table.new report.new }
+{
+    match piece {
+        Some(piece) => feed(state, piece, registry, table, report),
+        None => finish(state, registry, table, report),
+    }
+}
+
+// The same on the words of a state. A refusal leaves the very words.
 fn called(
     state: &mut [u32],
     piece: Option<&[u8]>,
     registry: &[u8],
     table: &mut [u32],
     report: &mut [u32],
-) -> u64
-    ensures { Call registry.now (asked_of piece.entry) state.old state.new table.old table.new report.old report.new result }
+) -> Result<usize, Refusal>
+    ensures few { IfOk result (λ n. n < 2 ^ word_bits) }
+    ensures call { (r : ℕ) → Packs (answers result) r
+        → Call registry.now (asked_of piece.entry) state.old state.new table.old table.new report.old report.new r }
 {
-    if state.len() != STATE_WORDS {
-        return packed(Err(Refusal::BadState));
-    }
-    let mut given = state_in(state);
-    let answer = match piece {
-        Some(piece) => feed(&mut given, piece, registry, table, report),
-        None => finish(&mut given, registry, table, report),
-    };
-    if answer.is_ok() {
-        put_state(state, &given);
-    }
-    packed(answer)
+    let words = state.as_mut_array().ok_or(Refusal::BadState)?;
+    let mut given = state_in(words);
+    let count = answer(&mut given, piece, registry, table, report)?;
+    put_state(words, &given);
+    Ok(count)
 }
 
 #[unsafe(no_mangle)]
@@ -83,7 +96,7 @@ pub extern "C" fn kilnsorrel_feed(
 ) -> u64
     ensures { Call registry.now (asks_feed piece.now) state.old state.new table.old table.new report.old report.new result }
 {
-    called(state, Some(piece), registry, table, report)
+    packed(called(state, Some(piece), registry, table, report))
 }
 
 #[unsafe(no_mangle)]
@@ -95,7 +108,7 @@ pub extern "C" fn kilnsorrel_finish(
 ) -> u64
     ensures { Call registry.now asks_finish state.old state.new table.old table.new report.old report.new result }
 {
-    called(state, None, registry, table, report)
+    packed(called(state, None, registry, table, report))
 }
 
 // How many intervals of a cell are estimated. Meter, channel and window day are from 0.

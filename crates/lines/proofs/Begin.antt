@@ -7,39 +7,19 @@ use Prim.Native.Nat.{ℕ}
 use native.Mathlib.Omega.{arith}
 use lib.Dec.{eqb}
 use lib.ListN.{length}
-use borrow.Author.Tests.{eq-eqb, ne_eqb, eqb-true, not-true, not-false}
+use borrow.Author.Tests.{eqb-true}
 use Rattle.text.specs.Byte.{Bytes, equals}
 use Rattle.text.specs.Field.{cut, first_field}
 use Rattle.text.proofs.Equal.{equals_path}
 use Rattle.text.proofs.Comma.{cut_at, cut-some}
 use Rattle.lines.specs.Line.{Line, is_long}
-use Rattle.report.specs.Outcome.{passed, refused, require, ◌>>◌}
+use Rattle.report.specs.Outcome.{passed, require, ◌>>◌}
 use Rattle.lines.specs.Row.{fields_of, ◌!◌, Due}
 use Rattle.report.specs.Verdict.{long, wrong_code, wrong_count}
 use Rattle.lines.proofs.Lines.{short-line}
 
-cut-first : (s : Bytes) → cut s ! 1 ≡ first_field s
+pub cut-first : (s : Bytes) → cut s ! 1 ≡ first_field s
 cut-first s = cut_at 0 s (cut-some s)
-
--- the tests, one after the other: f is the first field, m the number of fields
-module _ (line : Line) (code : Bytes) (n : ℕ) (r : Bool) (er : r ≡ is_long line) where
-  pub begin_long : r ≡ true → refused long ≡ fields_of code n line
-  unfolding fields_of
-  begin_long h = rw (← er, h)
-
-  module _ (hr : r ≡ false) (f : Bytes) (ef : f ≡ first_field line.body) (q : Bool) (eq : q ≡ equals f code) where
-    pub begin_code : not q ≡ true → refused wrong_code ≡ fields_of code n line
-    unfolding fields_of
-    begin_code h = rw (← er, hr, cut-first line.body, ← ef, ← eq, not-true q h)
-
-    module _ (hq : not q ≡ false) (m : ℕ) (em : m ≡ length (cut line.body)) where
-      pub begin_count : (m ≡ n → ⊥) → refused wrong_count ≡ fields_of code n line
-      unfolding fields_of
-      begin_count h = rw (← er, hr, cut-first line.body, ← ef, ← eq, not-false q hq, ← em, ne_eqb m n h)
-
-      pub begin_fields : m ≡ n → passed (cut line.body) ≡ fields_of code n line
-      unfolding fields_of
-      begin_fields h = rw (← er, hr, cut-first line.body, ← ef, ← eq, not-false q hq, ← em, eq-eqb m n h)
 
 -- what the tests say of a row that passes them
 three-passed : (a b c : Bool) (fields : List Bytes) → passed fields ≡ (require (not a) long >> (require b wrong_code >> (require c wrong_count >> passed fields)))

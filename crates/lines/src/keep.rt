@@ -7,8 +7,8 @@ use crate::line::LINE_LIMIT;
 pub const KEPT_LIMIT: usize = LINE_LIMIT + 1;
 
 // Puts a part of the line behind the bytes that are held, as far as there is room; how many are held then.
-pub fn keep(kept: &mut [u8], held: usize, part: &[u8]) -> usize
-    requires { (length kept.old ≡ kept_limit) × (held ≤ kept_limit) }
+pub fn keep(kept: &mut [u8; KEPT_LIMIT], held: usize, part: &[u8]) -> usize
+    requires { held ≤ kept_limit }
     ensures { (take result kept.new ≡ take kept_limit (take held kept.old ++ part.now)) × (result ≤ kept_limit) × (length kept.new ≡ kept_limit) }
 {
     let end = held + (KEPT_LIMIT - held).min(part.len());

@@ -4,6 +4,7 @@ ghost use Rattle.lines.specs.Row.{fields_of};
 ghost use Rattle.lines.specs.Answer.{line_of, begun_says};
 
 use crate::line::{Line, is_long};
+use report::require;
 use report::verdict::Verdict;
 use text::bytes::same;
 use text::fields::{field, field_count};
@@ -12,14 +13,7 @@ use text::fields::{field, field_count};
 pub fn begin(line: Line<'_>, code: &[u8], count: u8) -> Result<(), Verdict>
     ensures { begun_says result line.entry.body.now ≡ fields_of code.now count (line_of line.entry) }
 {
-    if is_long(line) {
-        return Err(Verdict::Long);
-    }
-    if !same(field(line.body), code) {
-        return Err(Verdict::WrongCode);
-    }
-    if field_count(line.body) != count {
-        return Err(Verdict::WrongCount);
-    }
-    Ok(())
+    require(!is_long(line), Verdict::Long)?;
+    require(same(field(line.body), code), Verdict::WrongCode)?;
+    require(field_count(line.body) == count, Verdict::WrongCount)
 }

@@ -32,12 +32,12 @@ pub fn feed<T: Slot>(
 ) -> Result<usize, Refusal>
     ensures { Keeps T.entries T.behind registry.now state.old table.old (asks_feed piece.now) report.old result state.new table.new report.new }
 {
-    let index = admit(state, registry, table.len(), T::room(report), piece.len())?;
+    let mut index = admit(state, registry, table.len(), T::room(report), piece.len())?;
     state.taken += piece.len();
     let mut at: usize = 0;
     let mut count: usize = 0;
     while at < piece.len() {
-        let batch = next_batch(&mut state.scan, piece, at, &index, table);
+        let batch = next_batch(&mut state.scan, piece, at, &mut index, table);
         T::put(report, count, &batch);
         at = batch.at;
         count += batch.count;

@@ -9,7 +9,6 @@ use lib.Dec.{leb, ltb}
 use lib.ListN.{length, take, length-take}
 use lib.Seq.{take_all}
 use borrow.Author.Tests.{ltb-true, ltb-false, leb-true, leb-false}
-use Rattle.std.specs.Prelude.{Option}
 use Rattle.report.specs.Words.{first_entries}
 use Rattle.text.specs.Byte.{Bytes}
 use Rattle.text.proofs.Truth.{and_left, and_right}
@@ -25,12 +24,13 @@ use Rattle.plain.proofs.Few.{few-scan}
 use Rattle.records.specs.declared.Parts.{Parts}
 use Rattle.units.specs.declared.Stepped.{Stepped}
 use Rattle.units.specs.Answer.{unit_of, told, judged_if, Reads}
+use Rattle.units.specs.declared.Unit.{Unit as KeptUnit}
 use Rattle.runs.specs.declared.Passed.{Passed}
 use Rattle.runs.specs.Run.{Asks, Passes}
 use Rattle.pieces.specs.declared.Scan.{Scan as KeptScan}
 use Rattle.pieces.specs.declared.line.Moved.{Moved}
 use Rattle.pieces.specs.declared.run.Run.{Run}
-use Rattle.pieces.specs.Ran.{scan_of, Ran, Holds, told_in, Moves, batch_size, batch_words, most_said, Runs}
+use Rattle.pieces.specs.Ran.{scan_of, Ran, Holds, told_in, Moves, batch_size, most_said, Puts, Runs}
 use Rattle.pieces.proofs.Running.{ran-both, ran-none}
 
 -- ---- A RUN
@@ -39,7 +39,7 @@ module _ (s : KeptScan) (piece : Bytes) (at : ℕ) (h : Holds s (length piece - 
   pub run_asks : at ≤ length piece → Asks s.unit s.lines piece at s.parts
   run_asks within = record { within = within; fits = h.fits; details = h.details }
 
-  module _ (reg : Bytes) (q : Passed) (parts : Parts) (t : Words) (p : Passes s.unit s.lines s.held piece at s.parts q parts) (next : Stepped)
+  module _ (reg : Bytes) (q : Passed KeptUnit) (parts : Parts) (t : Words) (p : Passes s.unit s.lines s.held piece at s.parts q parts) (next : Stepped)
       (j : Reads (judged_if q.all reg q.lines (unit_of q.unit parts)) (unit_of next.unit parts) (told next.said)) where
     -- behind the run
     abbrev ran-by : KeptScan
@@ -74,27 +74,22 @@ pub record Comes (reg : Bytes) (from : Scan) (piece : Bytes) (at : ℕ) (r : Run
   pub within : r.at ≤ length piece
   pub holds : Holds s (length piece - r.at)
   pub ran : Ran (rules_of reg) from (between at r.at piece) (scan_of s) (first_entries r.count out) before after
-  pub sized : length out ≡ batch_words
 
 pub comes_first : (reg : Bytes) (s : KeptScan) (t out : Words) (piece : Bytes) (at : ℕ)
-    → Holds s (length piece - at) → at ≤ length piece → length out ≡ batch_words
+    → Holds s (length piece - at) → at ≤ length piece
     → Comes reg (scan_of s) piece at (record { at = at; count = 0 }) s t t out
 unfolding first_entries
-comes_first reg s t out piece at h within wide =
+comes_first reg s t out piece at h within =
     let z : at - at ≡ 0 = omega arith in
-    record { behind = omega arith; within = within; holds = h; ran = rw z (ran-none (rules_of reg) s t h.few); sized = wide }
-
--- what `put` leaves
-abbrev Put : ℕ → Words → Option Entry → ℕ → Words → Type 0
-Put n out said n' out' = (first_entries n' out' ≡ first_entries n out ++ told said) × (n ≤ n') × (n' ≤ n + 1) × (length out' ≡ batch_words)
+    record { behind = omega arith; within = within; holds = h; ran = rw z (ran-none (rules_of reg) s t h.few) }
 
 module _ (reg : Bytes) (from : Scan) (piece : Bytes) (at : ℕ) (r : Run) (s : KeptScan) (before after out : Words)
     (c : Comes reg from piece at r s before after out) where
   comes_by : (r' : Run) (s' : KeptScan) (after' out' : Words) (es : List Entry) → r.at ≤ r'.at → r'.at ≤ length piece
       → Holds s' (length piece - r'.at) → Ran (rules_of reg) (scan_of s) (between r.at r'.at piece) (scan_of s') es after after'
-      → first_entries r'.count out' ≡ first_entries r.count out ++ es → length out' ≡ batch_words
+      → first_entries r'.count out' ≡ first_entries r.count out ++ es
       → Comes reg from piece at r' s' before after' out'
-  comes_by r' s' after' out' es behind within holds ran said wide =
+  comes_by r' s' after' out' es behind within holds ran said =
       record {
         behind = omega (arith, c.behind);
         within = within;
@@ -102,27 +97,26 @@ module _ (reg : Bytes) (from : Scan) (piece : Bytes) (at : ℕ) (r : Run) (s : K
         ran =
             rw (between-add piece at r.at r'.at c.behind behind, said)
             (ran-both reg _ _ _ (between at r.at piece) (between r.at r'.at piece) (first_entries r.count out) es before after after' c.ran ran);
-        sized = wide;
       }
 
   -- a run of lines, and what is said behind it
-  pub comes_run : (q : Passed) (parts : Parts) → Passes s.unit s.lines s.held piece r.at s.parts q parts → (next : Stepped)
+  pub comes_run : (q : Passed KeptUnit) (parts : Parts) → Passes s.unit s.lines s.held piece r.at s.parts q parts → (next : Stepped)
       → Reads (judged_if q.all reg q.lines (unit_of q.unit parts)) (unit_of next.unit parts) (told next.said)
-      → (n : ℕ) (out' : Words) → Put r.count out next.said n out'
+      → (n : ℕ) (out' : Words) → Puts r.count out next.said n out'
       → Comes reg from piece at (record { at = q.at; count = n }) (record { kept = s.kept; held = s.held; lines = q.lines; unit = next.unit; parts = parts })
       before after out'
   comes_run q parts p next j n out' put =
       comes_by (record { at = q.at; count = n }) (record { kept = s.kept; held = s.held; lines = q.lines; unit = next.unit; parts = parts }) after out'
       (told next.said) p.behind p.within (run_holds s piece r.at c.holds reg q parts after p next j)
-      (run_ran s piece r.at c.holds reg q parts after p next j) put.0 put.3
+      (run_ran s piece r.at c.holds reg q parts after p next j) put.0
 
   -- a line, or what the piece has of it
   pub comes_line : (m : Moved) (s' : KeptScan) (after' : Words) → Moves reg (scan_of s) piece r.at m s' after after'
-      → (n₁ n₂ : ℕ) (out₁ out₂ : Words) → Put r.count out m.first n₁ out₁ → Put n₁ out₁ m.second n₂ out₂
+      → (n₁ n₂ : ℕ) (out₁ out₂ : Words) → Puts r.count out m.first n₁ out₁ → Puts n₁ out₁ m.second n₂ out₂
       → Comes reg from piece at (record { at = m.at; count = n₂ }) s' before after' out₂
   comes_line m s' after' v n₁ n₂ out₁ out₂ a b =
       comes_by (record { at = m.at; count = n₂ }) s' after' out₂ (told_in m) v.behind v.within
-      v.holds v.ran (b.0 ∙ rw a.0 (append_assoc (first_entries r.count out) (told m.first) (told m.second))) b.3
+      v.holds v.ran (b.0 ∙ rw a.0 (append_assoc (first_entries r.count out) (told m.first) (told m.second)))
 
   pub comes_end : (b : Bool) → b ≡ (ltb r.at (length piece) && leb (r.count + most_said) batch_size) → b ≡ false → r.count ≤ batch_size
       → r.count ≤ most_said * (r.at - at) → Runs reg from piece at r s before after out

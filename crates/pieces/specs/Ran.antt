@@ -1,7 +1,7 @@
 -- A scan as the code keeps it: the kept bytes at the front of a run of 201, the line count, the unit with what is lent of its record; and what some
 -- bytes of a piece do to it. What goes by in a run is in runs/specs/Run.
 -- Assumes nothing.
-use Rattle.std.specs.Prelude.{◌≡◌, List, ◌++◌, ℕ, ◌+◌, ◌-◌, ◌*◌, ◌<◌, ◌≤◌, length, take}
+use Rattle.std.specs.Prelude.{◌≡◌, List, ◌++◌, Option, ℕ, ◌+◌, ◌-◌, ◌*◌, ◌<◌, ◌≤◌, length, take}
 use Rattle.text.specs.Byte.{Bytes}
 use Rattle.lines.specs.Line.{kept_limit}
 use Rattle.lines.specs.End.{between}
@@ -54,6 +54,10 @@ batch_words = batch_size * per_entry
 -- the most verdicts that fall between two looks at the room: one behind a run of rows, two at a line
 abbrev pub most_said : ℕ
 most_said = 3
+
+-- the entry of a verdict, if one fell, put behind the first n
+abbrev pub Puts : ℕ → Words → Option Entry → ℕ → Words → Type 0
+Puts n before said n' after = (first_entries n' after ≡ first_entries n before ++ told said) × (n ≤ n') × (n' ≤ n + 1)
 
 -- lines read from a place on, as long as a batch has room for them
 pub record Runs (reg : Bytes) (from : Scan) (piece : Bytes) (at : ℕ) (r : Run) (s : KeptScan) (before after out : Words) : Type 0 where

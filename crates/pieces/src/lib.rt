@@ -1,7 +1,7 @@
 // A piece of the file, line by line: lines of which nothing is said go by in runs, each other line goes to the unit, and bytes of a line are kept until
 // its LF comes.
 //
-//     let run = read_lines(&mut scan, piece, at, &index, table, &mut words);     // from place `at` on, as many lines as `words` has room for
+//     let run = read_lines(&mut scan, piece, at, &mut index, table, &mut words);     // from place `at` on, as many lines as `words` has room for
 //     // run.at is the place behind them; run.count entries of their verdicts are in `words`
 //
 // For whoever changes it: what a line does is in units, what goes by in a run in runs; what bytes do to a scan is `scan_to` of plain/specs/Loader.antt.

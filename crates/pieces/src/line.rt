@@ -6,7 +6,7 @@ ghost use Rattle.pieces.specs.Ran.{scan_of, Holds, Moves};
 
 use crate::Scan;
 use lines::end::{line_end, line_of};
-use lines::keep::keep;
+use lines::keep::{KEPT_LIMIT, keep};
 use lines::line::Line;
 use registry::Index;
 use report::Entry;
@@ -21,9 +21,9 @@ pub struct Moved {
 }
 
 // Puts the end of a line behind the bytes that are held of it; where none is held, nothing is kept.
-fn keep_end(kept: &mut [u8], held: usize, part: &[u8]) -> usize
-    requires { (length kept.old ≡ kept_limit) × (held ≤ kept_limit) }
-    ensures { (result ≤ kept_limit) × (length kept.new ≡ kept_limit) × (¬ (held ≡ 0) → take result kept.new ≡ take kept_limit (take held kept.old ++ part.now)) }
+fn keep_end(kept: &mut [u8; KEPT_LIMIT], held: usize, part: &[u8]) -> usize
+    requires { held ≤ kept_limit }
+    ensures { (result ≤ kept_limit) × (¬ (held ≡ 0) → take result kept.new ≡ take kept_limit (take held kept.old ++ part.now)) }
 {
     if held == 0 {
         return 0;
@@ -31,13 +31,12 @@ fn keep_end(kept: &mut [u8], held: usize, part: &[u8]) -> usize
     keep(kept, held, part)
 }
 
-// The line at a place of the piece, by a look for its end: it is read, or what there is of it is kept. The hint is the meter to try first.
+// The line at a place of the piece, by a look for its end: it is read, or what there is of it is kept.
 pub fn next_line(
     scan: &mut Scan,
     piece: &[u8],
     at: usize,
     index: &Index<'_>,
-    hint: usize,
     table: &mut [u32],
 ) -> Moved
     requires room { HasRoom index.now table.old }
@@ -63,7 +62,6 @@ pub fn next_line(
         scan.lines,
         Line::ended(raw),
         index,
-        hint,
         &mut scan.parts,
         table,
     );

@@ -1,8 +1,7 @@
 // Lines of a piece, one run and one line after the other, with the entries of their verdicts put as words.
-ghost use Rattle.std.specs.Prelude.{◌≡◌, ◌++◌, ◌&&◌, ◌+◌, ◌-◌, ◌<◌, ◌≤◌, leb, ltb, length};
-ghost use Rattle.report.specs.Words.{first_entries};
-ghost use Rattle.units.specs.Answer.{told, HasRoom};
-ghost use Rattle.pieces.specs.Ran.{scan_of, Holds, batch_size, batch_words, most_said, Runs};
+ghost use Rattle.std.specs.Prelude.{◌≡◌, ◌&&◌, ◌+◌, ◌-◌, ◌<◌, ◌≤◌, leb, ltb, length};
+ghost use Rattle.units.specs.Answer.{HasRoom};
+ghost use Rattle.pieces.specs.Ran.{scan_of, Holds, batch_size, most_said, Puts, Runs};
 
 use crate::Scan;
 use crate::line::next_line;
@@ -25,9 +24,9 @@ pub struct Run {
 }
 
 // Puts the entry of a verdict, if one fell, behind those that are there; how many there are then.
-pub fn put(out: &mut [u32], count: usize, said: Option<Entry>) -> usize
-    requires { (count < batch_size) × (length out.old ≡ batch_words) }
-    ensures { (first_entries result out.new ≡ first_entries count out.old ++ told said) × (count ≤ result) × (result ≤ count + 1) × (length out.new ≡ batch_words) }
+pub fn put(out: &mut [u32; BATCH_WORDS], count: usize, said: Option<Entry>) -> usize
+    requires { count < batch_size }
+    ensures { Puts count out.old said result out.new }
 {
     let Some(e) = said else {
         return count;
@@ -48,10 +47,11 @@ fn goes_on(at: usize, len: usize, count: usize) -> bool
 }
 
 // A record that waits leaves its meter as the one to try first: files are mostly in order of their meters, so that the next record has it too.
-fn hinted(hint: usize, unit: Unit) -> usize {
-    match unit {
-        Unit::Waits(_, _, ready) => usize::from(ready.meter),
-        _ => hint,
+fn leave_hint(index: &mut Index<'_>, unit: Unit)
+    ensures { index.new ≡ index.old }
+{
+    if let Unit::Waits(_, _, ready) = unit {
+        index.try_first(usize::from(ready.meter));
     }
 }
 
@@ -60,34 +60,26 @@ pub fn read_lines(
     scan: &mut Scan,
     piece: &[u8],
     at: usize,
-    index: &Index<'_>,
+    index: &mut Index<'_>,
     table: &mut [u32],
-    out: &mut [u32],
+    out: &mut [u32; BATCH_WORDS],
 ) -> Run
-    requires room { HasRoom index.now table.old }
+    requires room { HasRoom index.old table.old }
     requires holds { Holds scan.old (length piece.now - at) }
     requires within { at ≤ length piece.now }
-    requires wide { length out.old ≡ batch_words }
-    ensures { Runs index.now (scan_of scan.old) piece.now at result scan.new table.old table.new out.new }
+    ensures index { index.new ≡ index.old }
+    ensures ran { Runs index.old (scan_of scan.old) piece.now at result scan.new table.old table.new out.new }
 {
-    let mut hint: usize = 0;
     let mut e = at;
     let mut count: usize = 0;
     while goes_on(e, piece.len(), count) {
         let passed = run_over(scan.unit, scan.lines, scan.held, piece, e, &mut scan.parts);
-        let next = judged(
-            passed.unit,
-            passed.all,
-            passed.lines,
-            index,
-            hint,
-            &scan.parts,
-        );
+        let next = judged(passed.unit, passed.all, passed.lines, index, &scan.parts);
         count = put(out, count, next.said);
-        hint = hinted(hint, next.unit);
+        leave_hint(index, next.unit);
         scan.lines = passed.lines;
         scan.unit = next.unit;
-        let moved = next_line(scan, piece, passed.at, index, hint, table);
+        let moved = next_line(scan, piece, passed.at, index, table);
         count = put(out, count, moved.first);
         count = put(out, count, moved.second);
         e = moved.at;

@@ -18,7 +18,7 @@ use Rattle.lines.specs.Line.{Line, is_long}
 use Rattle.report.specs.Outcome.{Outcome, passed, refused, ◌>>=◌}
 use Rattle.lines.specs.Row.{fields_of}
 use Rattle.report.specs.Verdict.{long, wrong_code}
-use Rattle.headers.specs.One.{row_one}
+use Rattle.headers.specs.One.{channel_number, row_one}
 use Rattle.headers.specs.Two.{row_two}
 use Rattle.headers.specs.Three.{row_three}
 use Rattle.headers.specs.Four.{row_four}
@@ -33,7 +33,7 @@ use Rattle.reads.specs.Load.{holds_none}
 use Rattle.cell.specs.Marks.{mark_word, with_mark}
 use Rattle.cell.specs.Read.{cleared, begun, with_stamp, marked_if, with_interval, with_intervals}
 use Rattle.checks.specs.Check.{Judgement, Passed, Refused, judge}
-use Rattle.cells.specs.Number.{channels, channel_number}
+use Rattle.cells.specs.Number.{channels}
 use Rattle.cells.specs.Address.{meter_count, day_count, cells_of, is_address, cell_of}
 use Rattle.checks.proofs.Passed.{judged-within}
 use Rattle.cells.proofs.Numbers.{number-below}
@@ -88,7 +88,7 @@ intervals-kept (v ∷ vs) w i h =
 
 -- ---- A RECORD THAT PASSED THE CHECKS is for a cell of the registry.
 
-channel-below : (c : Channel) → channel_number c < channels
+pub channel-below : (c : Channel) → channel_number c < channels
 unfolding channel_number
 channel-below Load = omega arith
 channel-below Generation = omega arith

@@ -16,7 +16,7 @@ use Rattle.text.specs.Number.{number_from, digits_of, leading, behind}
 use Rattle.lines.specs.Line.{LF, drop_cr, ends_with_cr, ended_line, is_long, kind_of}
 use Rattle.lines.specs.Row.{fields_of}
 use Rattle.headers.specs.Time.{is_time, time_of, stamp_of, is_below, stops_day, is_whole_day}
-use Rattle.headers.specs.One.{channel_of, day_of, one_of, row_one}
+use Rattle.headers.specs.One.{channel_number, channel_of, day_of, one_of, row_one}
 use Rattle.headers.specs.Two.{fits_form, fit_all, two_of, row_two}
 use Rattle.headers.specs.Three.{row_three}
 use Rattle.headers.specs.Four.{four_of as stamp_from, row_four}
@@ -32,7 +32,7 @@ use Rattle.cell.specs.Layout.{Words, width}
 use Rattle.cell.specs.Read.{cleared, begun, with_stamp, with_interval, with_intervals}
 use Rattle.reads.specs.Load.{cell_at, put_cell, holds_none, merge, loaded}
 use Rattle.checks.specs.Check.{interval_flag, idr_flag, has_flag, in_window, flag_checks, day_in, meter_checks, judge}
-use Rattle.cells.specs.Number.{channel_number, cell_count, cell_number}
+use Rattle.cells.specs.Number.{cell_count, cell_number}
 use Rattle.cells.specs.Address.{is_address}
 use Rattle.plain.specs.Rows.{begins, first_row, with_row, checked, after_detail, detail_row, due_row, next_row, rules_of}
 use Rattle.plain.specs.Table.{load_one, load_all}

@@ -8,7 +8,7 @@ use Rattle.text.specs.Identifier.{esi_id_size}
 use Rattle.lines.specs.Line.{Line}
 use Rattle.report.specs.Outcome.{Outcome, passed, refused}
 use Rattle.report.specs.Verdict.{wrong_code}
-use Rattle.headers.specs.One.{RowOne, row_one}
+use Rattle.headers.specs.One.{channel_number, RowOne, row_one}
 use Rattle.headers.specs.Two.{row_two}
 use Rattle.headers.specs.Three.{row_three}
 use Rattle.headers.specs.Four.{row_four}
@@ -21,7 +21,6 @@ use Rattle.registry.specs.Registry.{is_registry}
 use Rattle.cell.specs.Layout.{Words, max_intervals}
 use Rattle.cell.specs.Read.{begun, with_stamp, with_intervals}
 use Rattle.checks.specs.Check.{Judgement, Passed, Refused, judge}
-use Rattle.cells.specs.Number.{channel_number}
 use Rattle.cells.specs.Address.{cells_of, is_address, cell_of}
 
 -- A read on its way into its cell: meter, window day (both from 0), channel, and the words of a cell that holds it.

@@ -5,6 +5,7 @@ ghost use Rattle.std.specs.Prelude.{◌≡◌, ◌+◌, ◌*◌, ◌<◌, ◌≤
 ghost use Rattle.report.specs.Words.{per_entry};
 ghost use Rattle.print.specs.declared.Stop.TheVariants.{Refused, Failed};
 
+use digits::Text;
 use entrytext::put_entries;
 use report::refusal::{DONE, Refusal};
 use report::words::PER_ENTRY;
@@ -56,13 +57,13 @@ pub fn columns(rt: &impl Print) -> io::Result<()> {
 
 // The first entries of a report, a line each.
 pub fn entries(rt: &impl Print, report: &[u32], count: usize) -> io::Result<()> {
-    let mut out = [0; OUT];
+    let mut text = Text::<OUT>::new();
     let n = entries_in(report, count);
     let mut i: usize = 0;
     while i < n {
-        let listed = put_entries(&mut out, report, i, n);
-        rt.write_all(&out[..listed.end])?;
-        i += listed.entries;
+        text.clear();
+        i += put_entries(&mut text, report, i, n);
+        rt.write_all(text.bytes())?;
     }
     Ok(())
 }

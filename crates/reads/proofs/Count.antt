@@ -1,35 +1,26 @@
 -- The number of marks: the ones of the mark words are the estimated intervals.
 -- Assumes nothing.
 use mathlib.Core.Path.{◌≡◌, refl, sym, ap, ap₂, ◌∙◌}
-use mathlib.Core.Bool.{Bool, true, false, ◌&&◌}
+use mathlib.Core.Bool.{true, ◌&&◌}
 use Prim.Native.Nat.{ℕ, zero, suc, ◌+◌, ◌-◌, ◌*◌, ◌/◌, ◌%◌, ◌^◌, ◌≤◌, ◌<◌}
 use native.Mathlib.Nat.{add-zero, mod-lt, mod-eq_of_lt, add_assoc}
 use native.Mathlib.Omega.{arith}
 use lib.Dec.{eqb, lit<}
 use lib.Pow.{pow_pos, mod-pow-add}
-use lib.Count.{ones, ones_cat, ones-ones, ones-le}
+use lib.Count.{ones, ones_cat, ones-ones}
 use lib.ListN.{length, get_or, take, drop, length-drop}
-use lib.Seq.{length-take-le}
-use Rattle.std.proofs.lemmas.List.{get_or-take, get_or-drop}
+use lib.Seq.{length-take-le, take-suc}
+use Rattle.std.specs.List.{sum_by}
+use Rattle.std.proofs.lemmas.List.{take_all, get_or-take, get_or-drop}
+use Rattle.std.proofs.lemmas.List.Sums.{sum_by_push}
 use Rattle.text.specs.Byte.{every}
 use Rattle.text.proofs.Truth.{and_right}
 use Rattle.cell.specs.Layout.{Words, width, count_at, marks_at, values_at, max_intervals, word_bits, mark_bits}
-use Rattle.cell.specs.Marks.{bit, is_estimated, one, estimated}
+use Rattle.cell.specs.Marks.{bit, one, estimated}
 use Rattle.reads.specs.Sound.{is_real_stamp, is_value, is_zero, values_of, is_sound}
 use Rattle.cell.specs.Read.{stamp_in}
-use mir.Syntax.{w32}
-use mir.Val.{Fits}
 use Rattle.cell.proofs.Marks.{in_word}
 use Rattle.reads.proofs.Scan.{none_from, unmarked}
-
-one_le : (b : Bool) → one b ≤ 1
-one_le true = omega arith
-one_le false = omega arith
-
-pub estimated_le : (n : ℕ) (w : Words) → estimated n w ≤ n
-unfolding estimated
-estimated_le zero w = omega arith
-estimated_le (suc n) w = omega (arith, estimated_le n w, one_le (is_estimated w n))
 
 -- ---- the ones of a word
 
@@ -66,27 +57,24 @@ estimated-word w j (suc k) h =
 abbrev pub mark_words : Words → Words
 mark_words w = take (values_at - marks_at) (drop marks_at w)
 
-mark_words_length : (w : Words) → length w ≡ width → length (mark_words w) ≡ values_at - marks_at
-mark_words_length w wide = length-take-le (values_at - marks_at) (drop marks_at w) (simp length-drop (omega arith))
+module _ (w : Words) (wide : length w ≡ width) (fits : (i : ℕ) → get_or w i 0 < 2 ^ word_bits) where
+  marks_length : length (mark_words w) ≡ values_at - marks_at
+  marks_length = length-take-le (values_at - marks_at) (drop marks_at w) (simp length-drop (omega arith))
 
-module _ (w : Words) (wide : length w ≡ width) (i n : ℕ) (so_far : n ≡ estimated (i * word_bits) w) where
-  module _ (h : i < length (mark_words w)) (fits : get_or (mark_words w) i 0 < 2 ^ word_bits) where
-    word : get_or (mark_words w) i 0 ≡ get_or w (marks_at + i) 0
-    word = get_or-take (values_at - marks_at) (drop marks_at w) i 0 (omega (arith, mark_words_length w wide)) ∙ get_or-drop marks_at w i 0
+  mark : (j : ℕ) → j < values_at - marks_at → get_or (mark_words w) j 0 ≡ get_or w (marks_at + j) 0
+  mark j h = get_or-take (values_at - marks_at) (drop marks_at w) j 0 h ∙ get_or-drop marks_at w j 0
 
-    pub count_again : n + ones (get_or (mark_words w) i 0) ≡ estimated ((i + 1) * word_bits) w
-    count_again =
-        let next : i * word_bits + word_bits ≡ (i + 1) * word_bits = omega arith in
-        rw word (sym (rw (next, mod-eq_of_lt (rw word at fits), ← so_far) at (estimated-word w i word_bits (omega arith))))
+  ones-estimated : (j : ℕ) → j ≤ values_at - marks_at → sum_by ones (take j (mark_words w)) ≡ estimated (j * word_bits) w
+  unfolding estimated
+  ones-estimated zero h = refl
+  ones-estimated (suc j) h =
+      let next : j * word_bits + word_bits ≡ suc j * word_bits = omega arith in
+      let word : get_or w (marks_at + j) 0 % 2 ^ word_bits ≡ get_or w (marks_at + j) 0 = mod-eq_of_lt (fits (marks_at + j)) in
+      rw (take-suc (mark_words w) j 0 (omega (arith, marks_length)), sum_by_push ones, ones-estimated j (omega arith), mark j (omega arith))
+      (sym (rw (next, word) at (estimated-word w j word_bits (omega arith))))
 
-    pub count_fits : Fits w32 (n + ones (get_or (mark_words w) i 0))
-    count_fits =
-        rw word record { fits = omega (arith, mark_words_length w wide, estimated_le (i * word_bits) w, ones-le word_bits (get_or w (marks_at + i) 0) (rw word at fits)) }
-
-  pub count_end : i ≤ length (mark_words w) → length (mark_words w) ≤ i → n ≡ estimated mark_bits w
-  count_end h g =
-      let all : i * word_bits ≡ mark_bits = omega (arith, mark_words_length w wide) in
-      so_far ∙ rw all
+  pub marks-estimated : sum_by ones (mark_words w) ≡ estimated mark_bits w
+  marks-estimated = rw (take_all (values_at - marks_at) (mark_words w) (omega (arith, marks_length))) at (ones-estimated (values_at - marks_at) (omega arith))
 
 -- ---- a sound cell
 

@@ -1,7 +1,8 @@
 // When a cell is sound for its day, and how many intervals of a sound cell are estimated.
-ghost use Rattle.std.specs.Prelude.{◌≡◌, ◌<◌, ◌≤◌, drop};
+ghost use Rattle.std.specs.Prelude.{◌≡◌, ◌<◌, ◌≤◌, ◌-◌, length, drop, count_ones};
+ghost use Rattle.std.specs.List.{sum_by};
 ghost use Rattle.text.specs.Byte.{every};
-ghost use Rattle.cell.specs.Layout.{max_intervals, mark_bits};
+ghost use Rattle.cell.specs.Layout.{max_intervals, mark_bits, marks_at, values_at};
 ghost use Rattle.cell.specs.Marks.{statuses, estimated};
 ghost use Rattle.reads.specs.Sound.{is_real_stamp, is_value, is_zero, no_mark, is_sound};
 
@@ -55,14 +56,17 @@ pub fn is_sound(words: &Words, n: u32) -> bool
     (words[Cell::COUNT] == n) & real & values & zero & is_clear(words, used)
 }
 
+// The ones of the words, added up. A cell has no more words of marks than that, so the sum fits.
+fn count_ones(marks: &[u32]) -> u32
+    requires { length marks.now ≤ values_at - marks_at }
+    ensures { result ≡ sum_by count_ones marks.now }
+{
+    marks.iter().map(|m| m.count_ones()).sum()
+}
+
 // How many marks a cell has: of a sound cell, how many intervals are estimated.
 pub fn count_marks(words: &Words) -> u32
     ensures { result ≡ estimated mark_bits words.now }
 {
-    let marks = &words[Cell::MARKS..Cell::VALUES];
-    let mut n: u32 = 0;
-    for i in 0..marks.len() {
-        n += marks[i].count_ones();
-    }
-    n
+    count_ones(&words[Cell::MARKS..Cell::VALUES])
 }

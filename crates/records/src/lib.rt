@@ -153,11 +153,11 @@ pub fn row_header(p: Progress, line: Line<'_>, parts: &mut Parts) -> Result<Prog
     }
 }
 
-// All rows are in: the registry checks. The hint is the meter to try first.
-pub fn check(p: Progress, index: &Index<'_>, hint: usize, parts: &Parts) -> Result<Ready, Fault>
+// All rows are in: the registry checks.
+pub fn check(p: Progress, index: &Index<'_>, parts: &Parts) -> Result<Ready, Fault>
     ensures { checked_says result p.day parts.now ≡ checked index.now (rows_of p parts.now) }
 {
-    let cleared = judge(index, hint, &parts.id, &parts.sender, p.day)?;
+    let cleared = judge(index, &parts.id, &parts.sender, p.day)?;
     Ok(Ready {
         meter: cleared.meter as u16,
         offset: cleared.day as u16,
@@ -178,18 +178,12 @@ pub fn put_intervals(words: &mut Words, k: u32, row: &Row)
 }
 
 // Detail row k is read and its intervals are put: it was the last, or another is due.
-fn after_detail(
-    p: Progress,
-    k: u32,
-    index: &Index<'_>,
-    hint: usize,
-    parts: &Parts,
-) -> Result<After, Fault>
+fn after_detail(p: Progress, k: u32, index: &Index<'_>, parts: &Parts) -> Result<After, Fault>
     requires { Few p × (k < max_details) }
     ensures { row_says result p.day parts.now ≡ after_detail index.now k (rows_of (one_more p) parts.now) }
 {
     if k + 1 == p.due {
-        return Ok(After::Complete(check(p, index, hint, parts)?));
+        return Ok(After::Complete(check(p, index, parts)?));
     }
     Ok(After::GoesOn(counted(p)))
 }
@@ -199,7 +193,6 @@ fn row_detail(
     p: Progress,
     line: Line<'_>,
     index: &Index<'_>,
-    hint: usize,
     parts: &mut Parts,
 ) -> Result<After, Fault>
     requires { Few p × (header_rows ≤ p.read) }
@@ -209,7 +202,7 @@ fn row_detail(
     let row = read_detail(line, k)?;
     require(k < MAX_DETAILS, Verdict::WrongCode)?;
     put_intervals(&mut parts.words, k, &row);
-    after_detail(p, k, index, hint, parts)
+    after_detail(p, k, index, parts)
 }
 
 // The row that is due.
@@ -217,7 +210,6 @@ pub fn row_next(
     p: Progress,
     line: Line<'_>,
     index: &Index<'_>,
-    hint: usize,
     parts: &mut Parts,
 ) -> Result<After, Fault>
     requires { Few p }
@@ -226,5 +218,5 @@ pub fn row_next(
     if p.read < HEADER_ROWS {
         return Ok(After::GoesOn(row_header(p, line, parts)?));
     }
-    row_detail(p, line, index, hint, parts)
+    row_detail(p, line, index, parts)
 }

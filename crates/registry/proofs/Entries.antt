@@ -1,25 +1,25 @@
 -- The entry at a place: its text, its kind by what the code tests, and whether a meter comes behind the last one.
 -- Assumes nothing.
-use mathlib.Core.Path.{◌≡◌, refl, sym, ap, ◌∙◌}
-use mathlib.Core.Bool.{Bool, true, false, cond, ◌&&◌, and-false}
-use Prim.Native.Nat.{ℕ, zero, suc, ◌+◌, ◌-◌, ◌≤◌, ◌<◌}
+use mathlib.Core.Path.{◌≡◌, refl, sym, ◌∙◌}
+use mathlib.Core.Bool.{Bool, true, false, cond}
+use Prim.Native.Nat.{ℕ, ◌+◌, ◌-◌, ◌≤◌, ◌<◌}
 use native.Mathlib.Omega.{arith}
-use lib.Dec.{leb}
 use lib.ListN.{length, take, drop, get_or, length-drop}
-use lib.Seq.{take-take, get_or-take, get_or-drop, length-take-le}
-use borrow.Author.Tests.{ne_eqb, lt-leb, le-leb, lt-ltb, le-ltb}
+use lib.Seq.{take_all, length-take-le}
+use borrow.Author.Tests.{ne_eqb, lt-leb, le-leb}
 use Rattle.text.specs.Byte.{Bytes}
 use Rattle.text.specs.Identifier.{esi_id_size}
 use Rattle.text.proofs.Left.{left-cons}
 use Rattle.padded.specs.Order.{order, below}
-use Rattle.padded.specs.Padding.{is_padded_esi_id, is_padded_duns}
+use Rattle.padded.specs.Padding.{is_padded_duns}
 use Rattle.std.specs.declared.cmp.Ordering.{Ordering}
 use Rattle.std.specs.Ordering.{is_lt}
 use Rattle.padded.proofs.Bytewise.{less-some}
-use Rattle.registry.specs.Entry.{owner_size, meter_size, all_flags, is_meter, entry_kind}
+use Rattle.registry.specs.Entry.{owner_size, meter_size, is_meter, entry_kind}
 use Rattle.std.specs.Prelude.{Option, Some, None}
+use Rattle.std.specs.Bool.{then_some}
 use Rattle.registry.specs.Index.{bytes_at}
-use Rattle.registry.specs.declared.entry.Kind.TheVariants.{Owner, Meter, Broken}
+use Rattle.registry.specs.declared.entry.Kind.TheVariants.{Owner, Meter}
 
 -- ---- the text
 
@@ -33,59 +33,38 @@ module _ (reg : Bytes) (place n : ℕ) where
   pub text-length : place + n < length reg → length (take n (drop (place + 1) reg)) ≡ n
   text-length h = length-take-le n (drop (place + 1) reg) (rw (length-drop (place + 1) reg) (omega arith))
 
--- ---- THE KIND
+-- ---- THE KIND, by what stands behind its byte
+
+by_test : {A : Type 0} (t : Bool) (a : A) → then_some t a ≡ cond t (Some a) None
+by_test true a = refl
+by_test false a = refl
 
 module _ (reg : Bytes) (at : ℕ) (h : at < length reg) where
-  pub kind_other : (get_or reg at 0 ≡ 2 → ⊥) → (get_or reg at 0 ≡ 3 → ⊥) → Broken ≡ entry_kind (drop at reg)
+  pub kind_other : (get_or reg at 0 ≡ 2 → ⊥) → (get_or reg at 0 ≡ 3 → ⊥) → None ≡ entry_kind (drop at reg)
   unfolding entry_kind
   kind_other e f = rw (left-cons reg at h, ne_eqb (get_or reg at 0) 2 e, ne_eqb (get_or reg at 0) 3 f)
 
-  module _ (e : get_or reg at 0 ≡ 2) where
-    pub owner-short : length reg - at ≤ owner_size → Broken ≡ entry_kind (drop at reg)
-    unfolding entry_kind
-    owner-short l = rw (left-cons reg at h, e, lt-leb owner_size (length (drop (at + 1) reg)) (rw (length-drop (at + 1) reg) (omega arith)))
+  module _ (s : Bytes) (cut : s ≡ take (length reg - (at + 1)) (drop (at + 1) reg)) where
+    behind_it : s ≡ drop (at + 1) reg
+    behind_it = cut ∙ take_all (length reg - (at + 1)) (drop (at + 1) reg) (rw (length-drop (at + 1) reg) (omega arith))
 
-    module _ (l : owner_size < length reg - at) (t : Bytes) (et : t ≡ take owner_size (drop (at + 1) reg)) (r : Bool) (er : r ≡ is_padded_duns t) where
-      owner_here : entry_kind (drop at reg) ≡ cond r Owner Broken
+    module _ (e : get_or reg at 0 ≡ 2) where
+      pub owner-short : length s < owner_size → None ≡ entry_kind (drop at reg)
       unfolding entry_kind
-      owner_here = rw (left-cons reg at h, e, le-leb owner_size (length (drop (at + 1) reg)) (rw (length-drop (at + 1) reg) (omega arith)), ← et, ← er)
+      owner-short l = rw (left-cons reg at h, e, ← behind_it, lt-leb owner_size (length s) l)
 
-      pub owner-right : r ≡ true → Owner ≡ entry_kind (drop at reg)
-      owner-right f = sym (owner_here ∙ rw f)
+      pub owner_whole : owner_size ≤ length s → (t : Bytes) → t ≡ take owner_size s → (r : Bool) → r ≡ is_padded_duns t → then_some r Owner ≡ entry_kind (drop at reg)
+      unfolding entry_kind
+      owner_whole l t et r er = rw (left-cons reg at h, e, ← behind_it, le-leb owner_size (length s) l, ← et, ← er) (by_test r Owner)
 
-      pub owner-wrong : r ≡ false → Broken ≡ entry_kind (drop at reg)
-      owner-wrong f = sym (owner_here ∙ rw f)
+    module _ (e : get_or reg at 0 ≡ 3) where
+      pub meter-short : length s < meter_size → None ≡ entry_kind (drop at reg)
+      unfolding entry_kind
+      meter-short l = rw (left-cons reg at h, e, ← behind_it, lt-leb meter_size (length s) l)
 
-  module _ (e : get_or reg at 0 ≡ 3) where
-    pub meter-short : length reg - at ≤ meter_size → Broken ≡ entry_kind (drop at reg)
-    unfolding entry_kind
-    meter-short l = rw (left-cons reg at h, e, lt-leb meter_size (length (drop (at + 1) reg)) (rw (length-drop (at + 1) reg) (omega arith)))
-
-    module _ (l : meter_size < length reg - at) where
-      meter-here : entry_kind (drop at reg)
-          ≡ cond (is_padded_esi_id (take esi_id_size (drop (at + 1) reg)) && leb (get_or reg (at + meter_size) 0) all_flags) Meter Broken
-      unfolding entry_kind is_meter
-      meter-here =
-          let n : at + 1 + esi_id_size ≡ at + meter_size = omega arith in
-          rw (
-            left-cons reg at h,
-            e,
-            le-leb meter_size (length (drop (at + 1) reg)) (rw (length-drop (at + 1) reg) (omega arith)),
-            take-take esi_id_size meter_size (drop (at + 1) reg) (omega arith),
-            get_or-take meter_size (drop (at + 1) reg) esi_id_size 0 (omega arith),
-            get_or-drop (at + 1) reg esi_id_size 0,
-            n,
-          )
-
-      pub meter-flags : all_flags < get_or reg (at + meter_size) 0 → Broken ≡ entry_kind (drop at reg)
-      meter-flags f = sym (meter-here ∙ rw (lt-leb (get_or reg (at + meter_size) 0) all_flags f, and-false))
-
-      module _ (f : get_or reg (at + meter_size) 0 ≤ all_flags) (t : Bytes) (et : t ≡ take esi_id_size (drop (at + 1) reg)) (r : Bool) (er : r ≡ is_padded_esi_id t) where
-        pub meter-right : r ≡ true → Meter ≡ entry_kind (drop at reg)
-        meter-right g = sym (meter-here ∙ rw (← et, ← er, g, le-leb (get_or reg (at + meter_size) 0) all_flags f))
-
-        pub meter-wrong : r ≡ false → Broken ≡ entry_kind (drop at reg)
-        meter-wrong g = sym (meter-here ∙ rw (← et, ← er, g))
+      pub meter_whole : meter_size ≤ length s → (t : Bytes) → t ≡ take meter_size s → (r : Bool) → r ≡ is_meter t → then_some r Meter ≡ entry_kind (drop at reg)
+      unfolding entry_kind
+      meter_whole l t et r er = rw (left-cons reg at h, e, ← behind_it, le-leb meter_size (length s) l, ← et, ← er) (by_test r Meter)
 
 -- ---- A METER BEHIND THE LAST ONE
 

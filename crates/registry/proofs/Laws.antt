@@ -24,8 +24,6 @@ use Rattle.registry.proofs.Reading.{Read, end, owner, meter, OwnerBody, meters-r
 
 -- ---- WHERE A RULE IS BROKEN there is no meter and no window.
 
--- ---- WHERE A RULE IS BROKEN there is no meter and no window.
-
 pub unsound_meters : (reg : Bytes) → is_registry reg ≡ false → meters_of reg ≡ []
 unfolding is_registry meters_of
 unsound_meters reg = go (registry_of reg)

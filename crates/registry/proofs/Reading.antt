@@ -21,18 +21,18 @@ use Rattle.registry.specs.Entry.{window_size, owner_size, meter_size, all_flags,
 use Rattle.registry.specs.Registry.{Meter, Seen, max_meters, none_seen, with_owner, with_meter, in_order, meter_of, before, by_kind, entries, start_with, meters_in, registry_of, meters_of}
 use Rattle.registry.specs.declared.entry.Window.{Window}
 use Rattle.registry.specs.declared.entry.Kind.{Kind}
-use Rattle.registry.specs.declared.entry.Kind.TheVariants.{Owner, Meter as AMeter, Broken}
+use Rattle.registry.specs.declared.entry.Kind.TheVariants.{Owner, Meter as AMeter}
 
 -- ---- an entry of a kind
 
-picked_owner : (a b c d : Bool) → cond a (cond b Owner Broken) (cond c (cond d AMeter Broken) Broken) ≡ Owner → b ≡ true
+picked_owner : (a b c d : Bool) → cond a (cond b (Some Owner) None) (cond c (cond d (Some AMeter) None) None) ≡ Some Owner → b ≡ true
 picked_owner true true c d e = refl
 picked_owner true false c d e = let n : ◌≡◌ {A = ℕ} 0 1 = cc in absurd (omega arith)
 picked_owner false b true true e = let n : ◌≡◌ {A = ℕ} 0 1 = cc in absurd (omega arith)
 picked_owner false b true false e = let n : ◌≡◌ {A = ℕ} 0 1 = cc in absurd (omega arith)
 picked_owner false b false d e = let n : ◌≡◌ {A = ℕ} 0 1 = cc in absurd (omega arith)
 
-picked_meter : (a b c d : Bool) → cond a (cond b Owner Broken) (cond c (cond d AMeter Broken) Broken) ≡ AMeter → d ≡ true
+picked_meter : (a b c d : Bool) → cond a (cond b (Some Owner) None) (cond c (cond d (Some AMeter) None) None) ≡ Some AMeter → d ≡ true
 picked_meter true true c d e = let n : ◌≡◌ {A = ℕ} 0 1 = cc in absurd (omega arith)
 picked_meter true false c d e = let n : ◌≡◌ {A = ℕ} 0 1 = cc in absurd (omega arith)
 picked_meter false b true true e = refl
@@ -56,7 +56,7 @@ module _ (k : ℕ) (b : Bytes) where
   meter_test : Bool
   meter_test = leb meter_size (length b) && is_meter (take meter_size b)
 
-  pub owner-body : entry_kind (k ∷ b) ≡ Owner → OwnerBody b
+  pub owner-body : entry_kind (k ∷ b) ≡ Some Owner → OwnerBody b
   unfolding entry_kind owner_test meter_test
   owner-body e =
       let t : owner_test ≡ true = picked_owner (eqb k 2) owner_test (eqb k 3) meter_test e in
@@ -65,7 +65,7 @@ module _ (k : ℕ) (b : Bytes) where
         duns = and_right (leb owner_size (length b)) (is_padded_duns (take owner_size b)) t;
       }
 
-  pub meter-body : entry_kind (k ∷ b) ≡ AMeter → MeterBody b
+  pub meter-body : entry_kind (k ∷ b) ≡ Some AMeter → MeterBody b
   unfolding entry_kind is_meter owner_test meter_test
   meter-body e =
       let t : meter_test ≡ true = picked_meter (eqb k 2) owner_test (eqb k 3) meter_test e in
@@ -115,11 +115,11 @@ read-meter : (s : Seen) (b : Bytes) (x : Option (List Meter)) (ms : List Meter) 
 read-meter s b x ms true o m e ih = read-before s b x ms m (ordered s b o) e ih
 read-meter s b x ms false o m e ih = let n : ◌≡◌ {A = ℕ} 0 1 = cc in absurd (omega arith)
 
-read-kind : (s : Seen) (k : Kind) (x y : Option (List Meter)) (ms : List Meter) → by_kind k x y ≡ Some ms
-    → (k ≡ Owner → x ≡ Some ms → Read s ms) → (k ≡ AMeter → y ≡ Some ms → Read s ms) → Read s ms
-read-kind s Owner x y ms e f g = f refl e
-read-kind s AMeter x y ms e f g = g refl e
-read-kind s Broken x y ms e f g = let n : ◌≡◌ {A = ℕ} 0 1 = cc in absurd (omega arith)
+read-kind : (s : Seen) (k : Option Kind) (x y : Option (List Meter)) (ms : List Meter) → by_kind k x y ≡ Some ms
+    → (k ≡ Some Owner → x ≡ Some ms → Read s ms) → (k ≡ Some AMeter → y ≡ Some ms → Read s ms) → Read s ms
+read-kind s (Some Owner) x y ms e f g = f refl e
+read-kind s (Some AMeter) x y ms e f g = g refl e
+read-kind s None x y ms e f g = let n : ◌≡◌ {A = ℕ} 0 1 = cc in absurd (omega arith)
 
 read : (n : ℕ) (s : Seen) (b : Bytes) (ms : List Meter) → entries n s b ≡ Some ms → Read s ms
 unfolding entries

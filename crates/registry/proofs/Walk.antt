@@ -16,12 +16,12 @@ use Rattle.text.specs.Identifier.{esi_id_size}
 use Rattle.text.proofs.Left.{left-cons, left-none}
 use Rattle.padded.specs.Order.{below}
 use Rattle.registry.specs.Entry.{window_size, owner_size, meter_size, start_of, entry_kind}
-use Rattle.registry.specs.Registry.{Meter, Seen, max_meters, none_seen, with_owner, with_meter, in_order, meter_of, before, entries, start_with, registry_of, is_registry, meters_of, no_window, window_is}
+use Rattle.registry.specs.Registry.{Meter, Seen, max_meters, none_seen, with_owner, with_meter, in_order, meter_of, before, entries, start_with, registry_of, is_registry, meters_of, window_is}
 use Rattle.registry.specs.Index.{bytes_at, seen_at, no_meter, no_place, MeterAt, OwnerAt, Indexes, index_of}
 use Rattle.registry.specs.declared.Place.{Place}
 use Rattle.registry.specs.declared.entry.Window.{Window}
 use Rattle.registry.specs.declared.entry.Kind.{Kind}
-use Rattle.registry.specs.declared.entry.Kind.TheVariants.{Owner, Meter as AMeter, Broken}
+use Rattle.registry.specs.declared.entry.Kind.TheVariants.{Owner, Meter as AMeter}
 use Rattle.registry.proofs.Entries.{text-length}
 use Rattle.registry.proofs.Opening.{start_fits}
 use Rattle.registry.proofs.Reading.{owner-body, meter-body}
@@ -42,36 +42,36 @@ module _ (reg : Bytes) (at : ℕ) (h : at < length reg) where
       let e : at + 1 + n ≡ at + (n + 1) = omega arith in
       skip n s (drop (at + 1) reg) (rw (length-drop (at + 1) reg) (omega arith)) ∙ rw (drop-drop n (at + 1) reg, e)
 
-  kind-here : (k : Kind) → entry_kind (drop at reg) ≡ k → entry_kind (get_or reg at 0 ∷ drop (at + 1) reg) ≡ k
+  kind-here : (k : Option Kind) → entry_kind (drop at reg) ≡ k → entry_kind (get_or reg at 0 ∷ drop (at + 1) reg) ≡ k
   kind-here k e = rw (left-cons reg at h) at e
 
-  owner-fits : entry_kind (drop at reg) ≡ Owner → at + owner_size < length reg
+  owner-fits : entry_kind (drop at reg) ≡ Some Owner → at + owner_size < length reg
   owner-fits e =
-      omega (arith, rw (length-drop (at + 1) reg) at (owner-body (get_or reg at 0) (drop (at + 1) reg) (kind-here Owner e)).whole)
+      omega (arith, rw (length-drop (at + 1) reg) at (owner-body (get_or reg at 0) (drop (at + 1) reg) (kind-here (Some Owner) e)).whole)
 
-  meter-fits : entry_kind (drop at reg) ≡ AMeter → at + meter_size < length reg
+  meter-fits : entry_kind (drop at reg) ≡ Some AMeter → at + meter_size < length reg
   meter-fits e =
-      omega (arith, rw (length-drop (at + 1) reg) at (meter-body (get_or reg at 0) (drop (at + 1) reg) (kind-here AMeter e)).whole)
+      omega (arith, rw (length-drop (at + 1) reg) at (meter-body (get_or reg at 0) (drop (at + 1) reg) (kind-here (Some AMeter) e)).whole)
 
   module _ (s : Seen) where
-    at_broken : entry_kind (drop at reg) ≡ Broken → entries 0 s (drop at reg) ≡ None
+    at_broken : entry_kind (drop at reg) ≡ None → entries 0 s (drop at reg) ≡ None
     unfolding entries
-    at_broken e = rw (left-cons reg at h, kind-here Broken e)
+    at_broken e = rw (left-cons reg at h, kind-here None e)
 
-    at-owner : entry_kind (drop at reg) ≡ Owner → entries 0 s (drop at reg) ≡ entries 0 (with_owner (drop (at + 1) reg) s) (drop (at + (owner_size + 1)) reg)
+    at-owner : entry_kind (drop at reg) ≡ Some Owner → entries 0 s (drop at reg) ≡ entries 0 (with_owner (drop (at + 1) reg) s) (drop (at + (owner_size + 1)) reg)
     unfolding entries
-    at-owner e = rw (left-cons reg at h, kind-here Owner e) (behind owner_size (with_owner (drop (at + 1) reg) s) (owner-fits e))
+    at-owner e = rw (left-cons reg at h, kind-here (Some Owner) e) (behind owner_size (with_owner (drop (at + 1) reg) s) (owner-fits e))
 
-    at-meter : entry_kind (drop at reg) ≡ AMeter → in_order s (drop (at + 1) reg) ≡ true
+    at-meter : entry_kind (drop at reg) ≡ Some AMeter → in_order s (drop (at + 1) reg) ≡ true
         → entries 0 s (drop at reg) ≡ before (meter_of s (drop (at + 1) reg)) (entries 0 (with_meter (drop (at + 1) reg) s) (drop (at + (meter_size + 1)) reg))
     unfolding entries
     at-meter e o =
-        rw (left-cons reg at h, kind-here AMeter e, o)
+        rw (left-cons reg at h, kind-here (Some AMeter) e, o)
         (ap (before (meter_of s (drop (at + 1) reg))) (behind meter_size (with_meter (drop (at + 1) reg) s) (meter-fits e)))
 
-    at_disorder : entry_kind (drop at reg) ≡ AMeter → in_order s (drop (at + 1) reg) ≡ false → entries 0 s (drop at reg) ≡ None
+    at_disorder : entry_kind (drop at reg) ≡ Some AMeter → in_order s (drop (at + 1) reg) ≡ false → entries 0 s (drop at reg) ≡ None
     unfolding entries
-    at_disorder e o = rw (left-cons reg at h, kind-here AMeter e, o)
+    at_disorder e o = rw (left-cons reg at h, kind-here (Some AMeter) e, o)
 
 -- ---- WHAT THE LOOP KEEPS
 
@@ -162,26 +162,26 @@ module _ (reg : Bytes) (owner last : Option ℕ) (count at : ℕ) where
   ordered-by p e w c b = rw (e, text-length reg p owner_size w, lt-ltb count max_meters c, b)
 
 module _ {reg : Bytes} {window : Window} {places : List Place} {at : ℕ} {owner last : Option ℕ} {count : ℕ} (w : Walked reg window places at owner last count)
-    (h : at < length reg) (kind : Kind) (ek : kind ≡ entry_kind (drop at reg)) where
+    (h : at < length reg) (kind : Option Kind) (ek : kind ≡ entry_kind (drop at reg)) where
   -- a broken rule at a later entry breaks the registry
   stopped : entries 0 (seen_at reg owner last count) (drop at reg) ≡ None → None ≡ index_of reg
   unfolding registry_of is_registry index_of
   stopped e = broken reg (ap (start_with (start_of reg)) (w.rest ∙ ap (after w.done) e) ∙ nothing (start_of reg))
 
-  pub walk_broken : kind ≡ Broken → None ≡ index_of reg
+  pub walk_broken : kind ≡ None → None ≡ index_of reg
   walk_broken e = stopped (at_broken reg at h (seen_at reg owner last count) (sym ek ∙ e))
 
   -- AN OWNER
-  pub walk_owner : kind ≡ Owner → Walked reg window places (at + (owner_size + 1)) (Some at) last count
-  walk_owner e =
-      let k : entry_kind (drop at reg) ≡ Owner = sym ek ∙ e in
+  pub walk_owner : (k : Kind) → kind ≡ Some k → k ≡ Owner → Walked reg window places (at + (owner_size + 1)) (Some at) last count
+  walk_owner k es e =
+      let o : entry_kind (drop at reg) ≡ Some Owner = sym ek ∙ es ∙ ap Some e in
       record {
         start = w.start;
         done = w.done;
-        rest = w.rest ∙ ap (after w.done) (at-owner reg at h (seen_at reg owner last count) k);
+        rest = w.rest ∙ ap (after w.done) (at-owner reg at h (seen_at reg owner last count) o);
         counted = w.counted;
-        within = omega (arith, owner-fits reg at h k);
-        owner-whole = owner-fits reg at h k;
+        within = omega (arith, owner-fits reg at h o);
+        owner-whole = owner-fits reg at h o;
         last-whole = w.last-whole;
         size = w.size;
         most = w.most;
@@ -190,9 +190,9 @@ module _ {reg : Bytes} {window : Window} {places : List Place} {at : ℕ} {owner
       }
 
   -- A METER
-  module _ (em : kind ≡ AMeter) where
-    is-meter : entry_kind (drop at reg) ≡ AMeter
-    is-meter = sym ek ∙ em
+  module _ (k : Kind) (es : kind ≡ Some k) (em : k ≡ AMeter) where
+    is-meter : entry_kind (drop at reg) ≡ Some AMeter
+    is-meter = sym ek ∙ es ∙ ap Some em
 
     pub meter-whole : at + meter_size < length reg
     meter-whole = meter-fits reg at h is-meter

@@ -9,7 +9,7 @@ use Rattle.text.specs.Identifier.{esi_id_size, duns_size}
 use Rattle.padded.specs.Padding.{is_padded_esi_id, is_padded_duns}
 use Rattle.registry.specs.declared.entry.Window.{Window}
 use Rattle.registry.specs.declared.entry.Kind.{Kind}
-use Rattle.registry.specs.declared.entry.Kind.TheVariants.{Owner, Meter, Broken}
+use Rattle.registry.specs.declared.entry.Kind.TheVariants.{Owner, Meter}
 
 -- the bytes of each kind's body
 abbrev pub window_size : ℕ
@@ -56,10 +56,10 @@ start_of [] = None
 start_of (kind ∷ b) =
     cond (eqb kind 1 && leb window_size (length b) && is_window (take window_size b)) (Some (window_of (take window_size b))) None
 
--- What stands at the head of the bytes behind it: an entry of kind 2 or 3, whole and right, or not. Kind 2 is an owner's DUNS, padded.
-unfoldable pub entry_kind : Bytes → Kind
-entry_kind [] = Broken
+-- What stands at the head of the bytes behind it: an entry of kind 2 or 3, whole and right, or none. Kind 2 is an owner's DUNS, padded.
+unfoldable pub entry_kind : Bytes → Option Kind
+entry_kind [] = None
 entry_kind (kind ∷ b) =
-    cond (eqb kind 2) (cond (leb owner_size (length b) && is_padded_duns (take owner_size b)) Owner Broken)
-    (cond (eqb kind 3) (cond (leb meter_size (length b) && is_meter (take meter_size b)) Meter Broken)
-    Broken)
+    cond (eqb kind 2) (cond (leb owner_size (length b) && is_padded_duns (take owner_size b)) (Some Owner) None)
+    (cond (eqb kind 3) (cond (leb meter_size (length b) && is_meter (take meter_size b)) (Some Meter) None)
+    None)

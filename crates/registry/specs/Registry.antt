@@ -1,13 +1,13 @@
 -- The registry that bytes are: one walk over its entries. Document 01, "Registry and cells".
 -- Assumes nothing.
-use Rattle.std.specs.Prelude.{Option, Some, None, is_some, List, [], ◌∷◌, Bool, true, false, cond, ◌&&◌, ℕ, zero, suc, ◌+◌, ltb, length, take, get_or}
+use Rattle.std.specs.Prelude.{Option, Some, None, is_some, List, [], ◌∷◌, Bool, cond, ◌&&◌, ℕ, zero, suc, ◌+◌, ltb, length, take, get_or}
 use Rattle.text.specs.Byte.{Bytes}
 use Rattle.text.specs.Identifier.{esi_id_size}
 use Rattle.padded.specs.Order.{below}
 use Rattle.registry.specs.Entry.{window_size, owner_size, meter_size, start_of, entry_kind}
 use Rattle.registry.specs.declared.entry.Window.{Window}
 use Rattle.registry.specs.declared.entry.Kind.{Kind}
-use Rattle.registry.specs.declared.entry.Kind.TheVariants.{Owner, Meter as AMeter, Broken}
+use Rattle.registry.specs.declared.entry.Kind.TheVariants.{Owner, Meter as AMeter}
 
 -- A meter: its ESI ID as padded to 64 bytes, the sum of its flags, its owner's DUNS number as padded to 13.
 pub record Meter : Type 0 where
@@ -49,10 +49,10 @@ abbrev pub before : Meter → Option (List Meter) → Option (List Meter)
 before m None = None
 before m (Some ms) = Some (m ∷ ms)
 
-abbrev pub by_kind : Kind → Option (List Meter) → Option (List Meter) → Option (List Meter)
-by_kind Owner owner meter = owner
-by_kind AMeter owner meter = meter
-by_kind Broken owner meter = None
+abbrev pub by_kind : Option Kind → Option (List Meter) → Option (List Meter) → Option (List Meter)
+by_kind None owner meter = None
+by_kind (Some Owner) owner meter = owner
+by_kind (Some AMeter) owner meter = meter
 
 -- The meters of the entries from here on, or none where a rule is broken. The first n bytes belong to the entry before.
 unfoldable pub entries : ℕ → Seen → Bytes → Option (List Meter)

@@ -1,15 +1,15 @@
 // One entry of the registry: what stands at its beginning, and at a later place.
 ghost use Rattle.std.specs.Prelude.{◌≡◌, ◌+◌, ◌<◌, length, take, drop};
-ghost use Rattle.registry.specs.Entry.{start_of, entry_kind};
+ghost use Rattle.registry.specs.Entry.{is_meter, start_of, entry_kind};
 
-use calendar::{LAST_DAY, day_number};
+use calendar::{DATE_SIZE, LAST_DAY, day_number};
 use padded::padding::{is_padded_duns, is_padded_esi_id};
 use text::bytes::all_digits;
 use text::names::{DUNS_SIZE, ESI_ID_SIZE};
 use text::numbers::number_of;
 
 // The bytes of each kind's body, behind the kind byte.
-pub const WINDOW_SIZE: usize = 10;
+pub const WINDOW_SIZE: usize = DATE_SIZE + 2;
 
 pub const OWNER_SIZE: usize = DUNS_SIZE;
 
@@ -20,8 +20,6 @@ const WINDOW_KIND: u8 = 1;
 const OWNER_KIND: u8 = 2;
 
 const METER_KIND: u8 = 3;
-
-const DATE_SIZE: usize = 8;
 
 const MAX_DAYS: u32 = 62;
 
@@ -40,7 +38,6 @@ pub struct Window {
 pub enum Kind {
     Owner,
     Meter,
-    Broken,
 }
 
 // The first `size` bytes behind the kind byte of the entry at a place.
@@ -76,32 +73,23 @@ pub fn read_start(registry: &[u8]) -> Option<Window>
     None
 }
 
-pub fn kind_at(registry: &[u8], at: usize) -> Kind
+// An ESI ID, padded, and the sum of its flags.
+#[tactic(auto, unfolding(crate::specs::Entry::is_meter))]
+fn is_meter(body: &[u8; METER_SIZE]) -> bool
+    ensures { result ≡ is_meter body.now }
+{
+    is_padded_esi_id(&body[..ESI_ID_SIZE]) & (body[ESI_ID_SIZE] <= ALL_FLAGS)
+}
+
+// Which entry stands at a place: none, if it is neither kind, cut off, or wrong.
+pub fn kind_at(registry: &[u8], at: usize) -> Option<Kind>
     requires { at < length registry.now }
     ensures { result ≡ entry_kind (drop at registry.now) }
 {
-    let kind = registry[at];
-    let left = registry.len() - at;
-    if kind == OWNER_KIND {
-        if left <= OWNER_SIZE {
-            return Kind::Broken;
-        }
-        if is_padded_duns(text_at(registry, at, OWNER_SIZE)) {
-            return Kind::Owner;
-        }
-        return Kind::Broken;
+    let body = &registry[at + 1..];
+    match registry[at] {
+        OWNER_KIND => is_padded_duns(body.first_chunk::<OWNER_SIZE>()?).then_some(Kind::Owner),
+        METER_KIND => is_meter(body.first_chunk()?).then_some(Kind::Meter),
+        _ => None,
     }
-    if kind == METER_KIND {
-        if left <= METER_SIZE {
-            return Kind::Broken;
-        }
-        if ALL_FLAGS < registry[at + METER_SIZE] {
-            return Kind::Broken;
-        }
-        if is_padded_esi_id(text_at(registry, at, ESI_ID_SIZE)) {
-            return Kind::Meter;
-        }
-        return Kind::Broken;
-    }
-    Kind::Broken
 }

@@ -1,7 +1,8 @@
 // The registry: its rules, an index of its meters, and the meter of an ESI ID.
 //
-//     let index = Index::of(registry)?;              // one walk over the bytes; none, where a rule is broken
-//     let meter = index.find(hint, id)?;             // the meter with this ESI ID, padded to 64 bytes: from 0, or none
+//     let mut index = Index::of(registry)?;          // one walk over the bytes; none, where a rule is broken
+//     let meter = index.find(id)?;                   // the meter with this ESI ID, padded to 64 bytes: from 0, or none
+//     index.try_first(meter);                        // the next one is likely the same
 //     index.flags(meter) ..                          // id_of, owner_of and is_owned tell of it too
 //
 // In a clause an index is its registry's bytes: it holds them, and what else it holds of them is always true.
@@ -14,7 +15,7 @@ ghost use Rattle.std.specs.Prelude.{◌≡◌, true, ◌+◌, ◌<◌, length, t
 ghost use Rattle.text.specs.Byte.{equals};
 ghost use Rattle.text.specs.Identifier.{esi_id_size};
 ghost use Rattle.padded.specs.Order.{below};
-ghost use Rattle.registry.specs.Entry.{owner_size, meter_size};
+ghost use Rattle.registry.specs.Entry.{meter_size};
 ghost use Rattle.registry.specs.Registry.{is_registry, meters_of, window_is};
 ghost use Rattle.registry.specs.Index.{bytes_at, index_of, meter_at, find_meter};
 
@@ -36,13 +37,15 @@ pub struct Place {
     pub owner: usize,
 }
 
-// A registry that breaks no rule, its window, and the places of its meters. A fixed array with a count, since nothing here is on a heap.
+// A registry that breaks no rule, its window, and the places of its meters. A fixed array with a count, since nothing here is on a heap. The hint is the
+// meter that `find` tries first; any number may be one.
 #[derive(Drop)]
 pub struct Index<'a> {
     registry: &'a [u8],
     window: Window,
     count: usize,
     places: [Place; MAX_METERS],
+    hint: usize,
 }
 
 impl<'a> Model for Index<'a> {
@@ -82,7 +85,7 @@ impl<'a> Index<'a> {
         let mut last: Option<usize> = None;
         let mut at: usize = WINDOW_SIZE + 1;
         while at < registry.len() {
-            match kind_at(registry, at) {
+            match kind_at(registry, at)? {
                 Kind::Owner => {
                     owner = Some(at);
                     at += OWNER_SIZE + 1;
@@ -103,7 +106,6 @@ impl<'a> Index<'a> {
                     last = Some(at);
                     at += METER_SIZE + 1;
                 }
-                Kind::Broken => return None,
             }
         }
         Some(Index {
@@ -111,6 +113,7 @@ impl<'a> Index<'a> {
             window,
             count,
             places,
+            hint: 0,
         })
     }
 
@@ -129,8 +132,7 @@ impl<'a> Index<'a> {
 
     // The meter with an ESI ID, found by halves. By hand: a closure for `binary_search_by` must be callable at any place, and only an
     // index's own places are known to be inside its registry.
-    fn search(&self, id: &[u8]) -> Option<usize>
-        requires { length id.now ≡ esi_id_size }
+    fn search(&self, id: &[u8; ESI_ID_SIZE]) -> Option<usize>
         ensures { result ≡ find_meter id.now (meters_of self.now) }
     {
         let mut low: usize = 0;
@@ -147,32 +149,42 @@ impl<'a> Index<'a> {
     }
 
     // The meter with this ESI ID, padded. Where the hint is right, there is no search.
-    pub fn find(&self, hint: usize, id: &[u8]) -> Option<usize>
-        requires { length id.now ≡ esi_id_size }
+    pub fn find(&self, id: &[u8; ESI_ID_SIZE]) -> Option<usize>
         ensures { result ≡ find_meter id.now (meters_of self.now) }
     {
-        if hint < self.count {
-            if same(self.id_of(hint), id) {
-                return Some(hint);
+        if self.hint < self.count {
+            if same(self.id_of(self.hint), id) {
+                return Some(self.hint);
             }
         }
         self.search(id)
     }
 
+    // A meter to try first from now on. It changes nothing of what is found.
+    pub fn try_first(&mut self, meter: usize)
+        ensures { self.new ≡ self.old }
+    {
+        self.hint = meter;
+    }
+
     // A meter's ESI ID, padded.
-    pub fn id_of(&self, meter: usize) -> &'a [u8]
+    pub fn id_of(&self, meter: usize) -> &'a [u8; ESI_ID_SIZE]
         requires { meter < length (meters_of self.now) }
-        ensures { (result.now ≡ (meter_at self.now meter).id) × (length result.now ≡ esi_id_size) }
+        ensures { result.now ≡ (meter_at self.now meter).id }
     {
         text_at(self.registry, self.places[meter].meter, ESI_ID_SIZE)
+            .as_array()
+            .unwrap()
     }
 
     // Its owner's DUNS number, padded.
-    pub fn owner_of(&self, meter: usize) -> &'a [u8]
+    pub fn owner_of(&self, meter: usize) -> &'a [u8; OWNER_SIZE]
         requires { meter < length (meters_of self.now) }
-        ensures { (result.now ≡ (meter_at self.now meter).owner) × (length result.now ≡ owner_size) }
+        ensures { result.now ≡ (meter_at self.now meter).owner }
     {
         text_at(self.registry, self.places[meter].owner, OWNER_SIZE)
+            .as_array()
+            .unwrap()
     }
 
     // The sum of a meter's flags.
@@ -184,9 +196,8 @@ impl<'a> Index<'a> {
     }
 
     // Whether a meter belongs to this owner, padded.
-    pub fn is_owned(&self, meter: usize, owner: &[u8]) -> bool
-        requires within { meter < length (meters_of self.now) }
-        requires sized { length owner.now ≡ owner_size }
+    pub fn is_owned(&self, meter: usize, owner: &[u8; OWNER_SIZE]) -> bool
+        requires { meter < length (meters_of self.now) }
         ensures { result ≡ equals (meter_at self.now meter).owner owner.now }
     {
         same(self.owner_of(meter), owner)

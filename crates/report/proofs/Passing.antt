@@ -1,10 +1,12 @@
 -- Steps one after the other that passed: each of them passed. And what an exit by `?` answers.
 -- Assumes nothing.
-use mathlib.Core.Path.{◌≡◌, refl, sym}
+use mathlib.Core.Path.{◌≡◌, refl, sym, ◌∙◌}
 use mathlib.Core.Bool.{Bool, true, false}
 use Prim.Native.Nat.{ℕ}
 use native.Mathlib.Omega.{arith}
-use Rattle.std.specs.Prelude.{Result, Err, IsErrAnd}
+use Rattle.std.specs.Prelude.{Option, None, Some, Result, Ok, Err, IsErrAnd}
+use Rattle.std.specs.Option.{ok_or}
+use Rattle.std.specs.Result.{result_ok}
 use Rattle.report.specs.declared.verdict.Verdict.{Verdict}
 use Rattle.report.specs.declared.refusal.Refusal.{Refusal}
 use Rattle.report.specs.Verdict.{verdict_number}
@@ -63,3 +65,12 @@ bind-exit r v next h = next-exit verdict_number r v h next
 
 pub answers-exit : {A : Type 0} (r : Result A Refusal) (f : Refusal) → IsErrAnd r (λ e. e ≡ f) → answers r ≡ refused (refusal_number f)
 answers-exit r f h = exit refusal_number r f h
+
+-- ---- THE ERROR OF AN `ok_or`, where there is none, is the one that was given
+pub none-given : {A E : Type 0} (o : Option A) (e f : E) → Err e ≡ ok_or o f → o ≡ None → e ≡ f
+none-given {A} {E} o e f v n = let w : ◌≡◌ {A = Result A E} (Err e) (Err f) = v ∙ rw n in cc
+
+-- ---- AN ANSWER OF WHICH ONLY THE VALUE IS TAKEN
+pub value-taken : {A : Type 0} (r : Result A Verdict) (a : A) → Some a ≡ result_ok r → passed a ≡ says r
+value-taken (Ok b) a e = cc
+value-taken (Err v) a e = absurd cc

@@ -14,6 +14,21 @@ impl From<Entry> for [u32; PER_ENTRY] {
     }
 }
 
+impl From<[u32; PER_ENTRY]> for Entry {
+    ghost from_gives = { λ words e. e ≡ entry_at words 0 };
+
+    fn from(words: [u32; PER_ENTRY]) -> Entry {
+        let [first, verdict, at, meter, day] = words;
+        Entry {
+            first,
+            verdict,
+            at,
+            meter,
+            day,
+        }
+    }
+}
+
 // Puts an entry behind the first n.
 pub fn put_entry(out: &mut [u32], n: usize, e: Entry)
     requires { n * per_entry + 4 < length out.old }
@@ -30,11 +45,5 @@ pub fn entry_at(words: &[u32], n: usize) -> Entry
     ensures { result ≡ entry_at words.now n }
 {
     let i = n * PER_ENTRY;
-    Entry {
-        first: words[i],
-        verdict: words[i + 1],
-        at: words[i + 2],
-        meter: words[i + 3],
-        day: words[i + 4],
-    }
+    Entry::from(*words[i..i + PER_ENTRY].as_array().unwrap())
 }

@@ -25,7 +25,8 @@ use Rattle.cell.specs.Layout.{Words, width, count_at}
 use Rattle.reads.specs.Load.{cell_at, put_cell, holds_none, merge, loaded}
 use Rattle.reads.proofs.Frame.{cell-length}
 use Rattle.report.specs.Refusal.{bad_descriptor}
-use Rattle.cells.specs.Number.{channels, channel_number}
+use Rattle.headers.specs.One.{channel_number}
+use Rattle.cells.specs.Number.{channels}
 use Rattle.cells.specs.Address.{meter_count, day_count, cells_of, is_address, cell_of}
 use Rattle.cells.proofs.Found.{cell-within}
 use Rattle.cells.proofs.Numbers.{number-below}

@@ -1,23 +1,27 @@
 -- The texts of the rows as the parts that are put one behind the other, and their lengths.
 -- Assumes nothing.
 use mathlib.Core.Path.{◌≡◌, refl, ap, sym, ◌∙◌}
-use mathlib.Core.List.{List, [], ◌∷◌, ◌++◌, append_assoc}
-use mathlib.Core.Bool.{Bool, true, false}
-use Prim.Native.Nat.{ℕ, zero, suc, ◌+◌, ◌/◌, ◌%◌}
+use mathlib.Core.List.{List, [], ◌∷◌, ◌++◌, append_assoc, append-nil}
+use Prim.Native.Nat.{ℕ, ◌+◌, ◌/◌, ◌%◌, ◌<◌, ◌≤◌}
 use native.Mathlib.Omega.{arith}
-use lib.ListN.{length, length-append}
+use lib.ListN.{length, get_or, take, drop, take-append-drop, length-append}
 use lib.Seq.{append_snoc}
+use borrow.Author.Tests.{eq-eqb}
+use Rattle.std.proofs.lemmas.List.{take_more, drop_more, take_all}
 use Rattle.text.specs.Byte.{Bytes, ascii}
 use Rattle.text.specs.Field.{comma}
 use Rattle.text.specs.Number.{digits_of}
+use Rattle.text.proofs.DigitsOf.{digits-length}
 use Rattle.lines.specs.Line.{LF}
 use Rattle.headers.specs.Time.{date_size, clock_size, day_stop}
 use Rattle.headers.specs.declared.time.Stamp.{Stamp}
-use Rattle.details.specs.Value.{point, part_digits, per_kwh}
+use Rattle.details.specs.Value.{point, whole_digits, part_digits, per_kwh}
 use Rattle.details.specs.Detail.{detail_code}
 use Rattle.details.specs.declared.detail.Interval.{Interval}
 use Rattle.rowtext.specs.Text.{row, with_commas, time_text, stamp_text, channel_text, value_text, status_text, interval_fields, row_fields, line_one, line_three, line_four, line_thirty, line_detail}
-use Rattle.rowtext.specs.Value.{Trims}
+use Rattle.digits.specs.Decimal.{trimmed, decimal}
+use Rattle.rowtext.specs.Value.{whole_end, value_end}
+use Rattle.rowtext.proofs.Lengths.{channel-length, time_length}
 
 -- the interval's fields with the comma before each
 abbrev pub interval_text : Interval → Bytes
@@ -29,67 +33,42 @@ pub time_is : (date clock : ℕ) → time_text date clock ≡ digits_of date_siz
 unfolding time_text
 time_is date clock = refl
 
-pub time_length : (date clock : ℕ) → length (time_text date clock) ≡ length (digits_of date_size date) + length (digits_of clock_size clock)
-time_length date clock = rw time_is (simp length-append)
+-- a needless zero in front of another digit
+zero-off : (b c : ℕ) (s : Bytes) → b ≡ 48 → trimmed (b ∷ (c ∷ s)) ≡ trimmed (c ∷ s)
+unfolding trimmed
+zero-off b c s e = rw (eq-eqb b 48 e)
 
-pub channel-load : (channel : ℕ) → channel ≡ 0 → channel_text channel ≡ ascii "4"
-channel-load channel e = rw e
+-- six of a number's digits are all that are not needless
+decimal-six : (n : ℕ) → n < whole_end → trimmed (digits_of whole_digits n) ≡ decimal n
+unfolding decimal digits_of
+decimal-six n h =
+    sym
+    (zero-off _ _ _ (omega arith) ∙ zero-off _ _ _ (omega arith) ∙ zero-off _ _ _ (omega arith) ∙ zero-off _ _ _ (omega arith))
 
-pub channel_other : (channel : ℕ) → (channel ≡ 0 → ⊥) → channel_text channel ≡ ascii "1"
-channel_other zero h = absurd (h refl)
-channel_other (suc c) h = refl
-
-pub channel-length : (channel : ℕ) → length (channel_text channel) ≡ 1
-channel-length zero = refl
-channel-length (suc c) = refl
-
-module _ (wh size : ℕ) (h : Trims (wh / per_kwh) size) where
-  pub value-is : value_text wh ≡ digits_of size (wh / per_kwh) ++ ascii "." ++ digits_of part_digits (wh % per_kwh)
-  unfolding value_text
-  value-is = rw h.text (sym (append_snoc (digits_of size (wh / per_kwh)) point (digits_of part_digits (wh % per_kwh))))
-
-  pub value-length : length (value_text wh) ≡ length (digits_of size (wh / per_kwh)) + 1 + length (digits_of part_digits (wh % per_kwh))
-  value-length = rw value-is (simp length-append)
+pub value-is : (wh : ℕ) → wh < value_end → value_text wh ≡ decimal (wh / per_kwh) ++ ascii "." ++ digits_of part_digits (wh % per_kwh)
+unfolding value_text
+value-is wh h = rw (decimal-six (wh / per_kwh) (omega arith)) (sym (append_snoc (decimal (wh / per_kwh)) point (digits_of part_digits (wh % per_kwh))))
 
 pub interval_is : (v : Interval) → interval_text v ≡ ascii "," ++ value_text v.wh ++ (ascii "," ++ status_text v.estimated ++ ascii ",")
 unfolding with_commas
 interval_is v = refl
-
-pub interval_length : (v : Interval) → length (interval_text v) ≡ 4 + length (value_text v.wh)
-unfolding with_commas
-interval_length v = go v.estimated
-  where
-    go : (e : Bool) → length (comma ∷ (value_text v.wh ++ (comma ∷ (status_text e ++ (comma ∷ []))))) ≡ 4 + length (value_text v.wh)
-    go false = simp length-append (omega arith)
-    go true = simp length-append (omega arith)
 
 -- LINES
 
 module _ (id : Bytes) (channel date : ℕ) where
   pub one-is :
       row (line_one id channel date)
-      ≡ ascii "00000001," ++ id ++ ascii "," ++ channel_text channel ++ ascii "," ++ time_text date 0 ++ ascii "," ++ time_text date day_stop ++ (ascii ",Y,N" ++ LF ∷ [])
+      ≡ ascii "00000001," ++ id ++ (comma ∷ channel_text channel) ++ (comma ∷ time_text date 0) ++ (comma ∷ time_text date day_stop) ++ (ascii ",Y,N" ++ LF ∷ [])
   unfolding line_one with_commas
   one-is = simp append_assoc
-
-  pub one-length :
-      length (row (line_one id channel date))
-      ≡ 17 + length id + length (channel_text channel) + length (time_text date 0) + length (time_text date day_stop)
-  one-length = rw one-is (simp length-append (omega arith))
 
 pub three-is : (descriptor : Bytes) → row (line_three descriptor) ≡ ascii "00000003," ++ descriptor ++ LF ∷ []
 unfolding line_three with_commas
 three-is descriptor = refl
 
-pub three-length : (descriptor : Bytes) → length (row (line_three descriptor)) ≡ 10 + length descriptor
-three-length descriptor = rw three-is (simp length-append (omega arith))
-
-pub four_is : (stamp : Stamp) → row (line_four stamp) ≡ ascii "00000004," ++ stamp_text stamp ++ (ascii ",M" ++ LF ∷ [])
+pub four_is : (stamp : Stamp) → row (line_four stamp) ≡ ascii "00000004" ++ (comma ∷ stamp_text stamp) ++ (ascii ",M" ++ LF ∷ [])
 unfolding line_four with_commas
 four_is stamp = simp append_assoc
-
-pub four-length : (stamp : Stamp) → length (row (line_four stamp)) ≡ 12 + length (stamp_text stamp)
-four-length stamp = rw four_is (simp length-append (omega arith))
 
 thirty-parts : (x o y z t : Bytes) → x ++ ((o ++ (y ++ (o ++ z))) ++ t) ≡ x ++ o ++ y ++ o ++ (z ++ t)
 thirty-parts x o y z t = simp append_assoc
@@ -100,8 +79,14 @@ unfolding line_thirty with_commas
 thirty-is owner =
     thirty-parts (ascii "00000030,ATTRIBUTE_VALUE_PAIRS,MRE=") owner (ascii ",Sender=") (ascii ",Receiver=183529049,REP=") (LF ∷ [])
 
-pub thirty-length : (owner : Bytes) → length (row (line_thirty owner)) ≡ 68 + length owner + length owner
-thirty-length owner = rw thirty-is (simp length-append (omega arith))
+-- rows as parts that are put one behind the other
+pub ruleset row_parts = (append_assoc, length-append, channel-length, time_length, one-is, three-is, four_is, thirty-is)
+
+pub ruleset value_parts = (append_assoc, length-append, digits-length, value-is)
+
+pub ruleset interval_parts = (append_assoc, length-append, interval_is)
+
+pub ruleset time_parts = (append_assoc, length-append, digits-length, time_is)
 
 -- an interval in front of another field
 interval_on : (v : Interval) (g : Bytes) (gs : List Bytes) → comma ∷ with_commas (interval_fields v ++ (g ∷ gs)) ≡ interval_text v ++ (comma ∷ with_commas (g ∷ gs))
@@ -152,3 +137,30 @@ module _ (k : ℕ) (vs : List Interval) where
 
   pub detail_length : length (row (line_detail k vs)) ≡ 8 + length (digits_of 2 k) + length (intervals_text vs)
   detail_length = rw detail_is (simp length-append (omega arith))
+
+pub ruleset front_parts = (length-append, digits-length, detail_is)
+
+-- a detail row behind a text t, so far as its intervals before the next
+module _ (t u : Bytes) (k i : ℕ) (vs : List Interval) (so_far : u ≡ t ++ detail_front k (take i vs)) where
+  module _ (v : Interval) (more : i < length vs) where
+    parts : intervals_text vs ≡ intervals_text (take i vs) ++ (interval_text (get_or vs i v) ++ intervals_text (drop (i + 1) vs))
+    parts =
+        ap intervals_text (sym (take-append-drop i vs))
+        ∙ texts-append (take i vs) (drop i vs)
+        ∙ ap (λ (ws : List Interval). intervals_text (take i vs) ++ intervals_text ws) (drop_more vs i v more)
+
+    pub interval-room : {n : ℕ} → length t + length (row (line_detail k vs)) ≤ n → length u + length (interval_text (get_or vs i v)) ≤ n
+    interval-room room =
+        let size : length (intervals_text vs) ≡ length (intervals_text (take i vs)) + (length (interval_text (get_or vs i v)) + length (intervals_text (drop (i + 1) vs))) =
+        ap length parts ∙ simp length-append in
+        let before : length u ≡ length t + (6 + length (digits_of 2 k) + length (intervals_text (take i vs))) = ap length so_far ∙ simp length-append in
+        omega (arith, before, size, detail_length k vs, room)
+
+    pub interval-next : {w : Bytes} → w ≡ u ++ interval_text (get_or vs i v) → w ≡ t ++ detail_front k (take (i + 1) vs)
+    interval-next e =
+        let texts : intervals_text (take (i + 1) vs) ≡ intervals_text (take i vs) ++ interval_text (get_or vs i v) =
+        ap intervals_text (take_more vs i v more) ∙ texts-append (take i vs) _ ∙ ap (λ (s : Bytes). intervals_text (take i vs) ++ s) (append-nil (interval_text (get_or vs i v))) in
+        e ∙ rw (so_far, texts) (simp append_assoc)
+
+  pub detail-all : {w : Bytes} → length vs ≤ i → w ≡ u ++ (ascii "," ++ LF ∷ []) → w ≡ t ++ row (line_detail k vs)
+  detail-all all e = e ∙ rw (so_far, take_all i vs all, detail_is) (append_assoc t (detail_front k vs) (ascii "," ++ LF ∷ []))

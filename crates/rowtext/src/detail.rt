@@ -1,80 +1,54 @@
 // The detail row: four intervals, each with its value.
-ghost use Rattle.std.specs.Prelude.{◌∷◌, ◌<◌};
+ghost use Rattle.std.specs.Prelude.{◌≡◌, ◌∷◌, ◌++◌, ◌+◌, ◌<◌, ◌≤◌, length};
 ghost use Rattle.std.specs.List.{All};
 ghost use Rattle.text.specs.Field.{comma};
 ghost use Rattle.rowtext.specs.Text.{row, with_commas, value_text, interval_fields, line_detail};
-ghost use Rattle.digits.specs.Put.{Room, Put};
-ghost use Rattle.rowtext.specs.Value.{whole_end, value_end, Trims};
+ghost use Rattle.rowtext.specs.Value.{value_end};
 
 use details::detail::{Interval, Row};
-use digits::{put, put_number};
+use details::value::PART_DIGITS;
+use digits::Text;
 
-// A value's decimals, and the watt hours of a kWh.
-const PART_DIGITS: usize = 3;
-
+// The watt hours of a kWh.
 const PER_KWH: u32 = 1000;
 
 // The digits of a row's number in its code.
 const ROW_DIGITS: usize = 2;
 
-// How many digits a value has before its point: one at least, and no needless zero in front.
-fn whole_size(n: u32) -> usize
-    requires { n < whole_end }
-    ensures { Trims n result }
-{
-    if n < 10 {
-        return 1;
-    }
-    if n < 100 {
-        return 2;
-    }
-    if n < 1000 {
-        return 3;
-    }
-    if n < 10000 {
-        return 4;
-    }
-    if n < 100000 {
-        return 5;
-    }
-    6
-}
-
-pub fn put_value(out: &mut [u8], at: usize, wh: u32) -> usize
+#[tactic(auto, using(crate::proofs::Texts::value_parts))]
+pub fn put_value<const N: usize>(text: &mut Text<N>, wh: u32)
     requires wh_lt_value_end { wh < value_end }
-    requires room { Room out.old at (value_text wh) }
-    ensures { Put out.old at (value_text wh) out.new result }
+    requires room { length text.old + length (value_text wh) ≤ N }
+    ensures { text.new ≡ text.old ++ value_text wh }
 {
-    let whole = wh / PER_KWH;
-    let mut end = put_number(out, at, whole_size(whole), whole);
-    end = put(out, end, b".");
-    put_number(out, end, PART_DIGITS, wh % PER_KWH)
+    text.put_decimal(wh / PER_KWH);
+    text.put(b".");
+    text.put_number(PART_DIGITS, wh % PER_KWH);
 }
 
 // Value, status, empty, with the comma before each of the three.
-fn put_interval(out: &mut [u8], at: usize, interval: Interval) -> usize
+#[tactic(auto, using(crate::proofs::Texts::interval_parts))]
+fn put_interval<const N: usize>(text: &mut Text<N>, interval: Interval)
     requires wh_lt_value_end { interval.wh < value_end }
-    requires room { Room out.old at (comma ∷ with_commas (interval_fields interval)) }
-    ensures { Put out.old at (comma ∷ with_commas (interval_fields interval)) out.new result }
+    requires room { length text.old + length (comma ∷ with_commas (interval_fields interval)) ≤ N }
+    ensures { text.new ≡ text.old ++ comma ∷ with_commas (interval_fields interval) }
 {
-    let mut end = put(out, at, b",");
-    end = put_value(out, end, interval.wh);
-    if interval.estimated {
-        return put(out, end, b",E,");
-    }
-    put(out, end, b",A,")
+    text.put(b",");
+    put_value(text, interval.wh);
+    text.put(if interval.estimated { b",E," } else { b",A," });
 }
 
 // Detail row k, from 0.
-pub fn put_detail(out: &mut [u8], at: usize, k: u32, intervals: &Row) -> usize
+#[tactic(auto, using(crate::proofs::Texts::front_parts))]
+pub fn put_detail<const N: usize>(text: &mut Text<N>, k: u32, intervals: &Row)
     requires wh_lt_value_end { All (λ v. v.wh < value_end) intervals.now }
-    requires room { Room out.old at (row (line_detail k intervals.now)) }
-    ensures { Put out.old at (row (line_detail k intervals.now)) out.new result }
+    requires room { length text.old + length (row (line_detail k intervals.now)) ≤ N }
+    ensures { text.new ≡ text.old ++ row (line_detail k intervals.now) }
 {
-    let mut end = put(out, at, b"100000");
-    end = put_number(out, end, ROW_DIGITS, k);
+    text.put(b"100000");
+    text.put_number(ROW_DIGITS, k);
     for interval in intervals {
-        end = put_interval(out, end, *interval);
+        put_interval(text, *interval);
     }
-    put(out, end, b",\n")
+    text.put(b",\n");
 }

@@ -1,87 +1,85 @@
 // The rows before the detail rows.
-ghost use Rattle.rowtext.specs.Text.{row, time_text, stamp_text, channel_text, line_one, line_two, line_three, line_four, line_thirty};
-ghost use Rattle.digits.specs.Put.{Room, Put};
+#![tactic(auto, using(crate::proofs::Texts::row_parts))]
 
-use digits::{put, put_number};
+ghost use Rattle.std.specs.Prelude.{◌≡◌, ◌∷◌, ◌++◌, ◌+◌, ◌≤◌, length};
+ghost use Rattle.text.specs.Field.{comma};
+ghost use Rattle.rowtext.specs.Text.{row, time_text, stamp_text, channel_text, line_one, line_two, line_three, line_four, line_thirty};
+
+use calendar::{CLOCK_SIZE, DATE_SIZE};
+use digits::Text;
 use headers::time::{DAY_STOP, Stamp};
 
-const DATE_SIZE: usize = 8;
-
-const CLOCK_SIZE: usize = 6;
-
-fn put_time(out: &mut [u8], at: usize, date: u32, clock: u32) -> usize
-    requires { Room out.old at (time_text date clock) }
-    ensures { Put out.old at (time_text date clock) out.new result }
+// A time, with the comma before it.
+#[tactic(auto, using(crate::proofs::Texts::time_parts))]
+fn put_time<const N: usize>(text: &mut Text<N>, date: u32, clock: u32)
+    requires { length text.old + length (comma ∷ time_text date clock) ≤ N }
+    ensures { text.new ≡ text.old ++ comma ∷ time_text date clock }
 {
-    let end = put_number(out, at, DATE_SIZE, date);
-    put_number(out, end, CLOCK_SIZE, clock)
+    text.put(b",");
+    text.put_number(DATE_SIZE, date);
+    text.put_number(CLOCK_SIZE, clock);
 }
 
-fn put_stamp(out: &mut [u8], at: usize, stamp: Stamp) -> usize
-    requires { Room out.old at (stamp_text stamp) }
-    ensures { Put out.old at (stamp_text stamp) out.new result }
+#[tactic(auto, unfolding(crate::specs::Text::stamp_text))]
+fn put_stamp<const N: usize>(text: &mut Text<N>, stamp: Stamp)
+    requires { length text.old + length (comma ∷ stamp_text stamp) ≤ N }
+    ensures { text.new ≡ text.old ++ comma ∷ stamp_text stamp }
 {
-    put_time(out, at, stamp.date, stamp.clock)
+    put_time(text, stamp.date, stamp.clock);
 }
 
-// Channels by their number: load is 0, generation 1.
-fn put_channel(out: &mut [u8], at: usize, channel: usize) -> usize
-    requires { Room out.old at (channel_text channel) }
-    ensures { Put out.old at (channel_text channel) out.new result }
+// A channel by its number, with the comma before it: load is 0, generation 1.
+fn put_channel<const N: usize>(text: &mut Text<N>, channel: usize)
+    requires { length text.old + length (comma ∷ channel_text channel) ≤ N }
+    ensures { text.new ≡ text.old ++ comma ∷ channel_text channel }
 {
-    if channel == 0 {
-        return put(out, at, b"4");
-    }
-    put(out, at, b"1")
+    text.put(if channel == 0 { b",4" } else { b",1" });
 }
 
-pub fn put_one(out: &mut [u8], at: usize, id: &[u8], channel: usize, date: u32) -> usize
-    requires { Room out.old at (row (line_one id.now channel date)) }
-    ensures { Put out.old at (row (line_one id.now channel date)) out.new result }
+pub fn put_one<const N: usize>(text: &mut Text<N>, id: &[u8], channel: usize, date: u32)
+    requires { length text.old + length (row (line_one id.now channel date)) ≤ N }
+    ensures { text.new ≡ text.old ++ row (line_one id.now channel date) }
 {
-    let mut end = put(out, at, b"00000001,");
-    end = put(out, end, id);
-    end = put(out, end, b",");
-    end = put_channel(out, end, channel);
-    end = put(out, end, b",");
-    end = put_time(out, end, date, 0);
-    end = put(out, end, b",");
-    end = put_time(out, end, date, DAY_STOP);
-    put(out, end, b",Y,N\n")
+    text.put(b"00000001,");
+    text.put(id);
+    put_channel(text, channel);
+    put_time(text, date, 0);
+    put_time(text, date, DAY_STOP);
+    text.put(b",Y,N\n");
 }
 
-pub fn put_two(out: &mut [u8], at: usize) -> usize
-    requires { Room out.old at (row line_two) }
-    ensures { Put out.old at (row line_two) out.new result }
+pub fn put_two<const N: usize>(text: &mut Text<N>)
+    requires { length text.old + length (row line_two) ≤ N }
+    ensures { text.new ≡ text.old ++ row line_two }
 {
-    put(out, at, b"00000002,,,,,,,900,01,,,,,CST\n")
+    text.put(b"00000002,,,,,,,900,01,,,,,CST\n");
 }
 
-pub fn put_three(out: &mut [u8], at: usize, descriptor: &[u8]) -> usize
-    requires { Room out.old at (row (line_three descriptor.now)) }
-    ensures { Put out.old at (row (line_three descriptor.now)) out.new result }
+pub fn put_three<const N: usize>(text: &mut Text<N>, descriptor: &[u8])
+    requires { length text.old + length (row (line_three descriptor.now)) ≤ N }
+    ensures { text.new ≡ text.old ++ row (line_three descriptor.now) }
 {
-    let mut end = put(out, at, b"00000003,");
-    end = put(out, end, descriptor);
-    put(out, end, b"\n")
+    text.put(b"00000003,");
+    text.put(descriptor);
+    text.put(b"\n");
 }
 
-pub fn put_four(out: &mut [u8], at: usize, stamp: Stamp) -> usize
-    requires { Room out.old at (row (line_four stamp)) }
-    ensures { Put out.old at (row (line_four stamp)) out.new result }
+pub fn put_four<const N: usize>(text: &mut Text<N>, stamp: Stamp)
+    requires { length text.old + length (row (line_four stamp)) ≤ N }
+    ensures { text.new ≡ text.old ++ row (line_four stamp) }
 {
-    let mut end = put(out, at, b"00000004,");
-    end = put_stamp(out, end, stamp);
-    put(out, end, b",M\n")
+    text.put(b"00000004");
+    put_stamp(text, stamp);
+    text.put(b",M\n");
 }
 
-pub fn put_thirty(out: &mut [u8], at: usize, owner: &[u8]) -> usize
-    requires { Room out.old at (row (line_thirty owner.now)) }
-    ensures { Put out.old at (row (line_thirty owner.now)) out.new result }
+pub fn put_thirty<const N: usize>(text: &mut Text<N>, owner: &[u8])
+    requires { length text.old + length (row (line_thirty owner.now)) ≤ N }
+    ensures { text.new ≡ text.old ++ row (line_thirty owner.now) }
 {
-    let mut end = put(out, at, b"00000030,ATTRIBUTE_VALUE_PAIRS,MRE=");
-    end = put(out, end, owner);
-    end = put(out, end, b",Sender=");
-    end = put(out, end, owner);
-    put(out, end, b",Receiver=183529049,REP=\n")
+    text.put(b"00000030,ATTRIBUTE_VALUE_PAIRS,MRE=");
+    text.put(owner);
+    text.put(b",Sender=");
+    text.put(owner);
+    text.put(b",Receiver=183529049,REP=\n");
 }

@@ -19,7 +19,7 @@ use Rattle.plain.proofs.Pieces.{scan_to-append, scan_events-append}
 use Rattle.records.specs.declared.Progress.{Progress}
 use Rattle.records.specs.declared.Parts.{Parts}
 use Rattle.records.specs.Answer.{rows_of, Few}
-use Rattle.runs.specs.declared.rows.RowsRead.{RowsRead}
+use Rattle.runs.specs.declared.Passed.{Passed}
 use Rattle.runs.specs.declared.rows.Taken.{Taken}
 use Rattle.runs.specs.Run.{with_read, rows_to, Took, RowsRan}
 
@@ -101,9 +101,9 @@ rows_more p lines piece at before k n e parts inv all t after few took =
     held first = takes_rows first (rows_of (with_read p k) parts)
 
 -- rows, and then others behind them
-pub rows_then : (p : Progress) (lines : ℕ) (piece : Bytes) (at : ℕ) (before : Parts) (r : RowsRead) (parts : Parts)
-    → RowsRan p lines piece at before r parts → r.all ≡ false → (q : RowsRead) (after : Parts)
-    → RowsRan r.progress r.lines piece r.at parts q after → RowsRan p lines piece at before q after
+pub rows_then : (p : Progress) (lines : ℕ) (piece : Bytes) (at : ℕ) (before : Parts) (r : Passed Progress) (parts : Parts)
+    → RowsRan p lines piece at before r parts → r.all ≡ false → (q : Passed Progress) (after : Parts)
+    → RowsRan r.unit r.lines piece r.at parts q after → RowsRan p lines piece at before q after
 rows_then p lines piece at before r parts a more q after b =
     record {
       behind = omega (arith, a.behind, b.behind);
@@ -121,7 +121,7 @@ rows_then p lines piece at before r parts a more q after b =
     from : (first : ℕ) → Scan
     from first = scan [] lines (takes_rows first (rows_of p before))
 
-    to : (reg : Bytes) (first : ℕ) → scan_to (rules_of reg) (from first) (between at r.at piece) ≡ scan [] r.lines (takes_rows first (rows_of r.progress parts))
+    to : (reg : Bytes) (first : ℕ) → scan_to (rules_of reg) (from first) (between at r.at piece) ≡ scan [] r.lines (takes_rows first (rows_of r.unit parts))
     to reg first = a.reaches reg first ∙ rw more
 
     none : (reg : Bytes) (first : ℕ) → scan_events (rules_of reg) (from first) (between at r.at piece) ≡ []

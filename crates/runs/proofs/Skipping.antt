@@ -16,7 +16,8 @@ use Rattle.lines.specs.declared.line.Kind.TheVariants.{Empty, Opener, Detail, Ot
 use Rattle.plain.specs.Rows.{rules_of}
 use Rattle.plain.specs.Loader.{skips, scan, step_kind, step_line, scan_to, scan_events}
 use Rattle.plain.specs.Call.{byte_limit}
-use Rattle.runs.specs.Run.{is_skipped, SkipsTo}
+use Rattle.units.specs.declared.Unit.TheVariants.{Skips}
+use Rattle.runs.specs.Run.{went_by, is_skipped, SkipsTo}
 use Rattle.runs.proofs.LineMore.{line_at, more-to, more-events}
 
 -- ---- ONE LINE
@@ -33,23 +34,31 @@ skip_step : (reg raw : Bytes) (n : ℕ) → is_skipped (kind_of (drop_cr raw)) �
 unfolding step_line ended_line
 skip_step reg raw n h = skip-kind reg n _ (kind_of (drop_cr raw)) h
 
+-- any kind but an opener's
+pub skips_others : (k : Kind) → (k ≡ Opener → ⊥) → is_skipped k ≡ true
+skips_others Empty h = refl
+skips_others Opener h = absurd (h refl)
+skips_others Detail h = refl
+skips_others Other h = refl
+
 -- ---- LINES
 
 pub skips_begin : (lines : ℕ) (piece : Bytes) (at : ℕ) → at ≤ length piece → lines + (length piece - at) ≤ byte_limit
-    → SkipsTo lines piece at (record { lines = lines; at = at })
+    → SkipsTo lines piece at (went_by Skips lines at)
 unfolding scan_to scan_events
 skips_begin lines piece at within fits =
     let z : at - at ≡ 0 = omega arith in
-    record { behind = omega arith; within = within; fits = fits; reaches = λ reg. rw z; quiet = λ reg. rw z }
+    record { skipped = refl; behind = omega arith; within = within; fits = fits; reaches = λ reg. rw z; quiet = λ reg. rw z }
 
-pub skips-again : (lines : ℕ) (piece : Bytes) (at n e : ℕ) → SkipsTo lines piece at (record { lines = n; at = e }) → (end : ℕ) → LineEnd piece e end
+pub skips-again : (lines : ℕ) (piece : Bytes) (at n e : ℕ) → SkipsTo lines piece at (went_by Skips n e) → (end : ℕ) → LineEnd piece e end
     → end < length piece → (r : Bool) → r ≡ is_skipped (kind_of (drop_cr (between e end piece))) → r ≡ true
-    → SkipsTo lines piece at (record { lines = n + 1; at = end + 1 })
+    → SkipsTo lines piece at (went_by Skips (n + 1) (end + 1))
 skips-again lines piece at n e inv end E inside r is t =
     let line : LineAt piece e (end - e + 1) = line_at piece e end E inside in
     let to : e + (end - e + 1) ≡ end + 1 = omega (arith, E.none.behind) in
     let raw : e + (end - e + 1 - 1) ≡ end = omega (arith, E.none.behind) in
     record {
+      skipped = refl;
       behind = omega (arith, inv.behind, E.none.behind);
       within = omega arith;
       fits = omega (arith, inv.fits, E.none.behind);

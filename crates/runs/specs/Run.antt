@@ -21,10 +21,12 @@ use Rattle.records.specs.Answer.{rows_of, one_more, Few}
 use Rattle.units.specs.declared.Unit.{Unit as KeptUnit}
 use Rattle.units.specs.declared.Unit.TheVariants.{Takes, Skips}
 use Rattle.units.specs.Answer.{unit_of, judged_if}
-use Rattle.runs.specs.declared.rows.RowsRead.{RowsRead}
 use Rattle.runs.specs.declared.rows.Taken.{Taken}
-use Rattle.runs.specs.declared.skip.Skipped.{Skipped}
 use Rattle.runs.specs.declared.Passed.{Passed}
+
+-- behind lines of which none is the day's last row; or there is no line
+abbrev pub went_by : {T : Type 0} → T → ℕ → ℕ → Passed T
+went_by unit lines at = record { unit = unit; lines = lines; at = at; all = false }
 
 -- ---- ONE LINE OF A RECORD
 
@@ -76,21 +78,21 @@ DetailTaken k piece at before r after = MatchOption r (after ≡ before) (λ t. 
 
 -- ---- LINES OF A RECORD
 
-abbrev pub rows_to : Progress → ℕ → ℕ → ℕ → Bool → RowsRead
-rows_to p read lines at all = record { progress = with_read p read; lines = lines; at = at; all = all }
+abbrev pub rows_to : Progress → ℕ → ℕ → ℕ → Bool → Passed Progress
+rows_to p read lines at all = record { unit = with_read p read; lines = lines; at = at; all = all }
 
 -- rows read from a place on, with what they leave of the record; nothing is said but what the registry checks say, if the day's last row is in
-pub record RowsRan (p : Progress) (lines : ℕ) (piece : Bytes) (at : ℕ) (before : Parts) (r : RowsRead) (after : Parts) : Type 0 where
+pub record RowsRan (p : Progress) (lines : ℕ) (piece : Bytes) (at : ℕ) (before : Parts) (r : Passed Progress) (after : Parts) : Type 0 where
   pub behind : at ≤ r.at
   pub within : r.at ≤ length piece
-  pub few : Few r.progress
+  pub few : Few r.unit
   pub fits : r.lines + (length piece - r.at) ≤ byte_limit
   pub reaches : (reg : Bytes) (first : ℕ)
       → scan_to (rules_of reg) (scan [] lines (takes_rows first (rows_of p before))) (between at r.at piece)
-      ≡ scan [] r.lines (judged_if r.all reg r.lines (takes_rows first (rows_of r.progress after))).unit
+      ≡ scan [] r.lines (judged_if r.all reg r.lines (takes_rows first (rows_of r.unit after))).unit
   pub tells : (reg : Bytes) (first : ℕ)
       → scan_events (rules_of reg) (scan [] lines (takes_rows first (rows_of p before))) (between at r.at piece)
-      ≡ (judged_if r.all reg r.lines (takes_rows first (rows_of r.progress after))).events
+      ≡ (judged_if r.all reg r.lines (takes_rows first (rows_of r.unit after))).events
 
 -- ---- LINES THAT A UNIT SKIPS
 
@@ -102,7 +104,8 @@ is_skipped Detail = true
 is_skipped Other = true
 
 -- lines skipped from a place on: nothing is said
-pub record SkipsTo (lines : ℕ) (piece : Bytes) (at : ℕ) (r : Skipped) : Type 0 where
+pub record SkipsTo (lines : ℕ) (piece : Bytes) (at : ℕ) (r : Passed KeptUnit) : Type 0 where
+  pub skipped : r ≡ went_by Skips r.lines r.at
   pub behind : at ≤ r.at
   pub within : r.at ≤ length piece
   pub fits : r.lines + (length piece - r.at) ≤ byte_limit
@@ -111,15 +114,9 @@ pub record SkipsTo (lines : ℕ) (piece : Bytes) (at : ℕ) (r : Skipped) : Type
 
 -- ---- A RUN
 
--- behind rows, behind skipped lines, and where no line goes by in a run
-abbrev pub passed_rows : ℕ → RowsRead → Passed
-passed_rows first r = record { unit = Takes first r.progress; lines = r.lines; at = r.at; all = r.all }
-
-abbrev pub passed_lines : Skipped → Passed
-passed_lines s = record { unit = Skips; lines = s.lines; at = s.at; all = false }
-
-abbrev pub stood_at : KeptUnit → ℕ → ℕ → Passed
-stood_at unit lines at = record { unit = unit; lines = lines; at = at; all = false }
+-- behind the rows of a record
+abbrev pub passed_rows : ℕ → Passed Progress → Passed KeptUnit
+passed_rows first r = record { unit = Takes first r.unit; lines = r.lines; at = r.at; all = r.all }
 
 -- what a run is asked with
 pub record Asks (unit : KeptUnit) (lines : ℕ) (piece : Bytes) (at : ℕ) (r : Parts) : Type 0 where
@@ -128,7 +125,7 @@ pub record Asks (unit : KeptUnit) (lines : ℕ) (piece : Bytes) (at : ℕ) (r : 
   pub details : details_in (unit_of unit r) ≤ max_details
 
 -- lines from a place on, of the first of which so many bytes are held: what they do to the scan, once a record whose rows are all in is judged
-pub record Passes (unit : KeptUnit) (lines held : ℕ) (piece : Bytes) (at : ℕ) (before : Parts) (r : Passed) (after : Parts) : Type 0 where
+pub record Passes (unit : KeptUnit) (lines held : ℕ) (piece : Bytes) (at : ℕ) (before : Parts) (r : Passed KeptUnit) (after : Parts) : Type 0 where
   pub behind : at ≤ r.at
   pub within : r.at ≤ length piece
   pub fits : r.lines + (length piece - r.at) ≤ byte_limit

@@ -11,58 +11,48 @@
 #![tactic(auto)]
 
 ghost use Rattle.std.specs.Prelude.{◌≡◌};
-ghost use Rattle.runs.specs.Run.{passed_rows, passed_lines, stood_at, Asks, Passes};
+ghost use Rattle.runs.specs.Run.{passed_rows, went_by, Asks, Passes};
 
-use crate::rows::{RowsRead, record_rows};
-use crate::skip::{Skipped, skip_lines};
-use records::Parts;
+use crate::rows::record_rows;
+use crate::skip::skip_lines;
+use records::{Parts, Progress};
 use units::Unit;
 
 pub mod rows;
 mod skip;
 
-// The unit, the line count, the place behind the last line of the run, and whether the day's last row is in.
+// What lines that went by leave: the unit, or the record that it is; the line count; the place behind the last line; and whether the day's last row is in.
+// `all` stands beside them: an enum of two variants would hold the same fields in both, and the unit does not tell it, since a state of any words may hold
+// a record whose rows are all in.
 #[derive(Clone, Copy)]
-pub struct Passed {
-    pub unit: Unit,
+pub struct Passed<T> {
+    pub unit: T,
     pub lines: u32,
     pub at: usize,
     pub all: bool,
 }
 
-// Behind the rows of a record that began at line `first`.
-fn behind_rows(first: u32, r: RowsRead) -> Passed
-    ensures { result ≡ passed_rows first r }
-{
-    Passed {
-        unit: Unit::Takes(first, r.progress),
-        lines: r.lines,
-        at: r.at,
-        all: r.all,
-    }
-}
-
-// Behind lines that were skipped.
-fn behind_skipped(s: Skipped) -> Passed
-    ensures { result ≡ passed_lines s }
-{
-    Passed {
-        unit: Unit::Skips,
-        lines: s.lines,
-        at: s.at,
-        all: false,
-    }
-}
-
-// No line: the unit takes none in a run, or bytes of one are held.
-fn stays(unit: Unit, lines: u32, at: usize) -> Passed
-    ensures { result ≡ stood_at unit lines at }
+// Behind lines of which none is the day's last row; or there is no line.
+fn gone_by<T>(unit: T, lines: u32, at: usize) -> Passed<T>
+    ensures { result ≡ went_by unit lines at }
 {
     Passed {
         unit,
         lines,
         at,
         all: false,
+    }
+}
+
+// Behind the rows of a record that began at line `first`.
+fn behind_rows(first: u32, r: Passed<Progress>) -> Passed<Unit>
+    ensures { result ≡ passed_rows first r }
+{
+    Passed {
+        unit: Unit::Takes(first, r.unit),
+        lines: r.lines,
+        at: r.at,
+        all: r.all,
     }
 }
 
@@ -74,7 +64,7 @@ pub fn run_over(
     piece: &[u8],
     at: usize,
     parts: &mut Parts,
-) -> Passed
+) -> Passed<Unit>
     requires { Asks unit lines piece.now at parts.old }
     ensures { Passes unit lines held piece.now at parts.old result parts.new }
 {
@@ -83,8 +73,8 @@ pub fn run_over(
             return behind_rows(first, record_rows(p, lines, piece, at, parts));
         }
         if let Unit::Skips = unit {
-            return behind_skipped(skip_lines(lines, piece, at));
+            return skip_lines(lines, piece, at);
         }
     }
-    stays(unit, lines, at)
+    gone_by(unit, lines, at)
 }

@@ -6,19 +6,11 @@ ghost use Rattle.plain.specs.Call.{byte_limit};
 ghost use Rattle.records.specs.Answer.{Few};
 ghost use Rattle.runs.specs.Run.{taken_rows, with_read, rows_to, HeaderRead, HeaderTaken, DetailTaken, RowsRan};
 
+use crate::Passed;
 use direct::read_direct;
 use lines::end::{empty_line, line_end};
 use lines::line::Line;
 use records::{HEADER_ROWS, MAX_DETAILS, Parts, Progress, put_intervals, row_header};
-
-// The record, the line count, the place behind the last line that was read, and whether the day's last row is in.
-#[derive(Clone, Copy)]
-pub struct RowsRead {
-    pub progress: Progress,
-    pub lines: u32,
-    pub at: usize,
-    pub all: bool,
-}
 
 // A line that was taken: how many bytes it has, its LF included, and how many rows it is, none for an empty line.
 #[derive(Clone, Copy)]
@@ -41,11 +33,11 @@ fn with_read(p: Progress, read: u32) -> Progress
     Progress { read, ..p }
 }
 
-fn rows_read(p: Progress, read: u32, lines: u32, at: usize, all: bool) -> RowsRead
+fn rows_read(p: Progress, read: u32, lines: u32, at: usize, all: bool) -> Passed<Progress>
     ensures { result ≡ rows_to p read lines at all }
 {
-    RowsRead {
-        progress: with_read(p, read),
+    Passed {
+        unit: with_read(p, read),
         lines,
         at,
         all,
@@ -84,7 +76,13 @@ fn take_header(p: Progress, piece: &[u8], at: usize, parts: &mut Parts) -> Optio
 }
 
 // Header rows from the place where a line begins, as many as stand whole in the piece and pass.
-fn read_headers(p: Progress, lines: u32, piece: &[u8], at: usize, parts: &mut Parts) -> RowsRead
+fn read_headers(
+    p: Progress,
+    lines: u32,
+    piece: &[u8],
+    at: usize,
+    parts: &mut Parts,
+) -> Passed<Progress>
     requires { Few p × (at ≤ length piece.now) × (lines + (length piece.now - at) ≤ byte_limit) }
     ensures { RowsRan p lines piece.now at parts.old result parts.new × (result.all ≡ false) }
 {
@@ -121,7 +119,13 @@ fn take_detail(parts: &mut Parts, piece: &[u8], at: usize, k: u32) -> Option<Tak
 }
 
 // Detail rows from the place where a line begins, as many as read directly: no more than the day has, nor than a cell has room for.
-fn read_details(p: Progress, lines: u32, piece: &[u8], at: usize, parts: &mut Parts) -> RowsRead
+fn read_details(
+    p: Progress,
+    lines: u32,
+    piece: &[u8],
+    at: usize,
+    parts: &mut Parts,
+) -> Passed<Progress>
     requires { Few p × (header_rows ≤ p.read) × (at ≤ length piece.now) × (lines + (length piece.now - at) ≤ byte_limit) }
     ensures { RowsRan p lines piece.now at parts.old result parts.new }
 {
@@ -142,13 +146,19 @@ fn read_details(p: Progress, lines: u32, piece: &[u8], at: usize, parts: &mut Pa
 }
 
 // The rows of a record, header rows first.
-pub fn record_rows(p: Progress, lines: u32, piece: &[u8], at: usize, parts: &mut Parts) -> RowsRead
+pub fn record_rows(
+    p: Progress,
+    lines: u32,
+    piece: &[u8],
+    at: usize,
+    parts: &mut Parts,
+) -> Passed<Progress>
     requires { Few p × (at ≤ length piece.now) × (lines + (length piece.now - at) ≤ byte_limit) }
     ensures { RowsRan p lines piece.now at parts.old result parts.new }
 {
     let headers = read_headers(p, lines, piece, at, parts);
-    if headers.progress.read < HEADER_ROWS {
+    if headers.unit.read < HEADER_ROWS {
         return headers;
     }
-    read_details(headers.progress, headers.lines, piece, headers.at, parts)
+    read_details(headers.unit, headers.lines, piece, headers.at, parts)
 }

@@ -61,9 +61,7 @@ pub fn admit<'a>(
     ensures kept { length state.now.scan.kept ≡ kept_limit }
 {
     require(!is_overfull(state), Refusal::BadState)?;
-    let Some(index) = Index::of(registry) else {
-        return Err(Refusal::BadRegistry);
-    };
+    let index = Index::of(registry).ok_or(Refusal::BadRegistry)?;
     for_table(&index, size)?;
     require(2 + n / 2 <= room, Refusal::ShortReport)?;
     require(n <= BYTE_LIMIT - state.taken, Refusal::TooManyBytes)?;

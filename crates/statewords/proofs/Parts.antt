@@ -4,13 +4,21 @@ use mathlib.Core.Path.{◌≡◌, refl, sym, ap, ◌∙◌}
 use mathlib.Core.List.{[], ◌++◌, append_assoc, append-nil}
 use Prim.Native.Nat.{ℕ, ◌+◌, ◌≤◌}
 use native.Mathlib.Omega.{arith}
-use lib.ListN.{length, take, length-append}
-use lib.Seq.{take_at, drop_at, take_all, take-length, take-paste, length-paste}
+use lib.ListN.{length, take, drop, length-append, length-drop}
+use lib.Seq.{take_at, drop_at, take_all, length-take-le}
 use Rattle.lines.specs.Line.{kept_limit}
 use Rattle.text.specs.Identifier.{esi_id_size, duns_size}
+use Rattle.headers.specs.One.{channel_number}
+use Rattle.headers.specs.declared.one.Channel.{Channel}
+use Rattle.headers.specs.declared.one.Channel.TheVariants.{Load, Generation}
 use Rattle.cell.specs.Layout.{Words, width}
-use Rattle.statewords.specs.Layout.{numbers_size, unit_size, numbers_at, unit_at, id_at, sender_at, words_at, state_words, part_at, state_of, state_in}
-use Rattle.statewords.specs.Private.{put_at}
+use Rattle.statewords.specs.Layout.{numbers_size, unit_size, numbers_at, unit_at, id_at, sender_at, words_at, state_words, part_at, channel_in, state_of, state_in}
+
+-- a channel is that of its number
+pub channel_back : (c : Channel) → channel_in (channel_number c) ≡ c
+unfolding channel_number
+channel_back Load = refl
+channel_back Generation = refl
 
 -- ---- the parts of a list
 
@@ -57,38 +65,57 @@ module _ (kept numbers unit id sender words : Words) (z : Sized kept numbers uni
 
 -- ---- put one behind the other
 
+-- the words with a part in the place of n of them
+abbrev put_in : ℕ → ℕ → Words → Words → Words
+put_in at n ws part = take at ws ++ (part ++ drop n (drop at ws))
+
 -- words of a state's length that begin so
 record Begins (ws front : Words) (at : ℕ) : Type 0 where
   begins : take at ws ≡ front
   long : length ws ≡ state_words
 
-begins-more : (ws next front part : Words) (at n : ℕ) → Begins ws front at → next ≡ put_at ws at part → length part ≡ n → at + n ≤ state_words
-    → Begins next (front ++ part) (at + n)
-unfolding put_at
-begins-more ws next front part at n b e l h =
+begins-more : (ws front part : Words) (at n : ℕ) → Begins ws front at → length part ≡ n → at + n ≤ state_words → Begins (put_in at n ws part) (front ++ part) (at + n)
+begins-more ws front part at n b l h =
+    let taken : length (take at ws) ≡ at = length-take-le at ws (omega (arith, b.long)) in
+    let before : length front ≡ at = rw (← b.begins) taken in
     record {
-      begins = rw (e, ← b.begins, ← l) (take-paste ws at part (length part) (omega (arith, b.long)) (omega arith) ∙ rw (take-length part));
-      long = rw e (length-paste ws at part (length part) (omega (arith, b.long)) (omega arith) ∙ b.long);
+      begins = rw (b.begins, ← append_assoc front part (drop n (drop at ws))) (take_at (front ++ part) (drop n (drop at ws)) (at + n) (rw (length-append front part, before, l)));
+      long = simp (length-append, length-drop) (omega (arith, b.long, taken));
     }
 
 -- each part put behind those before it
-module _ (ws one two three four five after kept numbers unit id sender words : Words) (l : length ws ≡ state_words)
-    (k : one ≡ put_at ws 0 kept) (n : two ≡ put_at one numbers_at numbers) (u : three ≡ put_at two unit_at unit) (i : four ≡ put_at three id_at id)
-    (d : five ≡ put_at four sender_at sender) (w : after ≡ put_at five words_at words)
-    (z : Sized kept numbers unit id sender words) where
+module _ (ws kept numbers unit id sender words : Words) (l : length ws ≡ state_words) (z : Sized kept numbers unit id sender words) where
+  abbrev with_kept : Words
+  with_kept = put_in 0 kept_limit ws kept
+
+  abbrev with_numbers : Words
+  with_numbers = put_in numbers_at numbers_size with_kept numbers
+
+  abbrev with_unit : Words
+  with_unit = put_in unit_at unit_size with_numbers unit
+
+  abbrev with_id : Words
+  with_id = put_in id_at esi_id_size with_unit id
+
+  abbrev with_sender : Words
+  with_sender = put_in sender_at duns_size with_id sender
+
+  abbrev after : Words
+  after = put_in words_at width with_sender words
+
   begins-all : Begins after (kept ++ numbers ++ unit ++ id ++ sender ++ words) state_words
   begins-all =
-      begins-more five after _ words words_at width
-      (begins-more four five _ sender sender_at duns_size
-      (begins-more three four _ id id_at esi_id_size
-      (begins-more two three _ unit unit_at unit_size
-      (begins-more one two _ numbers numbers_at numbers_size
-      (begins-more ws one [] kept 0 kept_limit (record { begins = refl; long = l }) k z.kept_sized (omega arith))
-      n z.numbers_sized (omega arith))
-      u z.unit_sized (omega arith))
-      i z.id_sized (omega arith))
-      d z.sender_sized (omega arith))
-      w z.words_sized (omega arith)
+      begins-more with_sender _ words words_at width
+      (begins-more with_id _ sender sender_at duns_size
+      (begins-more with_unit _ id id_at esi_id_size
+      (begins-more with_numbers _ unit unit_at unit_size
+      (begins-more with_kept _ numbers numbers_at numbers_size
+      (begins-more ws [] kept 0 kept_limit (record { begins = refl; long = l }) z.kept_sized (omega arith))
+      z.numbers_sized (omega arith))
+      z.unit_sized (omega arith))
+      z.id_sized (omega arith))
+      z.sender_sized (omega arith))
+      z.words_sized (omega arith)
 
   after_is : after ≡ kept ++ numbers ++ unit ++ id ++ sender ++ words
   after_is = sym (take_all state_words after (omega (arith, begins-all.long))) ∙ begins-all.begins

@@ -1,3 +1,2 @@
--- A state as words: the layout, and how the parts are put.
+-- A state as words: the layout.
 pub mod Layout
-pub mod Private

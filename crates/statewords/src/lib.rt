@@ -1,7 +1,7 @@
 // A state as a run of 32-bit words, and words as a state: so it crosses the border to C and Rust.
 //
-//     let s = state_in(words);            // words: &[u32] of STATE_WORDS
-//     put_state(words, &next);            // words: &mut [u32] of STATE_WORDS
+//     let s = state_in(words);            // words: &[u32; STATE_WORDS]
+//     put_state(words, &next);            // words: &mut [u32; STATE_WORDS]
 //
 // specs/Layout.antt says which words are which part. Whatever the words hold, they are some state.
 //
@@ -9,8 +9,7 @@
 #![tactic(auto)]
 
 ghost use Rattle.std.specs.Prelude.{◌≡◌, ◌+◌, ◌<◌, ◌≤◌, length, get_or};
-ghost use Rattle.statewords.specs.Layout.{state_words, unit_size, bytes_in, wide_in, channel_in, unit_from, state_in};
-ghost use Rattle.statewords.specs.Private.{put_at};
+ghost use Rattle.statewords.specs.Layout.{numbers_size, state_words, part_at, bytes_in, wide_in, channel_in, unit_from, state_in};
 
 use cell::Cell;
 use cell::mark::WORD_BITS;
@@ -25,12 +24,16 @@ use units::Unit;
 // How many numbers a word can be.
 pub const SPAN: usize = 1 << WORD_BITS;
 
+const NUMBERS_SIZE: usize = 5;
+
+const UNIT_SIZE: usize = 7;
+
 // Where each part begins, behind the kept bytes.
 const NUMBERS_AT: usize = KEPT_LIMIT;
 
-const UNIT_AT: usize = NUMBERS_AT + 5;
+const UNIT_AT: usize = NUMBERS_AT + NUMBERS_SIZE;
 
-const ID_AT: usize = UNIT_AT + 7;
+const ID_AT: usize = UNIT_AT + UNIT_SIZE;
 
 const SENDER_AT: usize = ID_AT + ESI_ID_SIZE;
 
@@ -38,44 +41,46 @@ const WORDS_AT: usize = SENDER_AT + DUNS_SIZE;
 
 pub const STATE_WORDS: usize = WORDS_AT + Cell::WIDTH;
 
-// Words that are bytes, as bytes.
-#[tactic(auto, using(crate::proofs::Copies::get_again, crate::proofs::Copies::get_end))]
-fn get_bytes(to: &mut [u8], from: &[u32])
-    requires { length to.old ≡ length from.now }
-    ensures { to.new ≡ bytes_in from.now }
+// A part of a state's words.
+fn part<const N: usize>(state: &[u32; STATE_WORDS], at: usize) -> &[u32; N]
+    requires { at + N ≤ state_words }
+    ensures { result.now ≡ part_at at N state.now }
 {
-    for (i, b) in to.iter_mut().enumerate() {
-        *b = (from[i] % 256) as u8;
-    }
+    state[at..at + N].as_array().unwrap()
 }
 
-// Bytes put from a place on, a byte a word.
-#[tactic(auto, using(crate::proofs::Copies::put_again))]
-fn put_bytes(to: &mut [u32], at: usize, from: &[u8])
-    requires { at + length from.now ≤ length to.old }
-    ensures put { to.new ≡ put_at to.old at from.now }
+// Words that are bytes, as bytes. By a loop: `map` asks that an iterator over any N words fits in memory, and of what a closure given to `array::from_fn`
+// answers nothing is known where N is a parameter.
+#[tactic(auto, using(crate::proofs::Copies::get_end))]
+fn get_bytes<const N: usize>(from: &[u32; N]) -> [u8; N]
+    ensures { result ≡ bytes_in from.now }
+{
+    let mut to = [0; N];
+    for (i, w) in from.iter().enumerate() {
+        to[i] = (*w % 256) as u8;
+    }
+    to
+}
+
+// Bytes as words, a byte a word. By index, since under a `zip` no invariant can name what is written.
+#[tactic(auto, using(crate::proofs::Copies::put_again, crate::proofs::Copies::put_end))]
+fn put_bytes(to: &mut [u32], from: &[u8])
+    requires { length to.old ≡ length from.now }
+    ensures put { to.new ≡ from.now }
     ensures bytes { bytes_in from.now ≡ from.now }
 {
-    for (i, b) in from.iter().enumerate() {
-        to[at + i] = u32::from(*b);
+    for (i, w) in to.iter_mut().enumerate() {
+        *w = u32::from(from[i]);
     }
-}
-
-// Words put from a place on.
-#[tactic(auto, unfolding(crate::specs::Private::put_at))]
-fn put_words(to: &mut [u32], at: usize, from: &[u32])
-    requires { at + length from.now ≤ length to.old }
-    ensures { to.new ≡ put_at to.old at from.now }
-{
-    to[at..at + from.len()].copy_from_slice(from);
 }
 
 // A number of 64 bits, its low word first.
 #[tactic(auto, unfolding(crate::specs::Layout::wide_in))]
-fn wide_in(words: &[u32], at: usize) -> usize
-    requires { at + 1 < length words.now }
+fn wide_in(words: &[u32; NUMBERS_SIZE], at: usize) -> usize
+    requires { at + 1 < numbers_size }
     ensures { result ≡ wide_in words.now at }
 {
+    // No `From` makes a `usize` of a `u32`.
     words[at] as usize + words[at + 1] as usize * SPAN
 }
 
@@ -89,8 +94,7 @@ fn channel_in(word: u32) -> Channel
 }
 
 #[tactic(auto, unfolding(crate::specs::Layout::unit_from))]
-fn unit_in(words: &[u32]) -> Unit
-    requires { length words.now ≡ unit_size }
+fn unit_in(words: &[u32; UNIT_SIZE]) -> Unit
     ensures { result ≡ unit_from words.now }
 {
     let first = words[1];
@@ -121,48 +125,33 @@ fn unit_in(words: &[u32]) -> Unit
 
 // The state that words are.
 #[tactic(auto, unfolding(crate::specs::Layout::state_in))]
-pub fn state_in(state: &[u32]) -> State
-    requires { length state.now ≡ state_words }
+pub fn state_in(state: &[u32; STATE_WORDS]) -> State
     ensures { result ≡ state_in state.now }
 {
-    let mut kept = [0; KEPT_LIMIT];
-    let mut id = [0; ESI_ID_SIZE];
-    let mut sender = [0; DUNS_SIZE];
-    let mut words = [0; Cell::WIDTH];
-    get_bytes(&mut kept, &state[0..NUMBERS_AT]);
-    let numbers = &state[NUMBERS_AT..UNIT_AT];
-    let unit = unit_in(&state[UNIT_AT..ID_AT]);
-    get_bytes(&mut id, &state[ID_AT..SENDER_AT]);
-    get_bytes(&mut sender, &state[SENDER_AT..WORDS_AT]);
-    words.copy_from_slice(&state[WORDS_AT..STATE_WORDS]);
+    let numbers = part(state, NUMBERS_AT);
     State {
         scan: Scan {
-            kept,
+            kept: get_bytes(part(state, 0)),
             held: wide_in(numbers, 0),
             lines: numbers[4],
-            unit,
-            parts: Parts { id, sender, words },
+            unit: unit_in(part(state, UNIT_AT)),
+            parts: Parts {
+                id: get_bytes(part(state, ID_AT)),
+                sender: get_bytes(part(state, SENDER_AT)),
+                words: *part(state, WORDS_AT),
+            },
         },
         taken: wide_in(numbers, 2),
     }
 }
 
-fn channel_word(channel: Channel) -> u32
-    ensures { channel_in result ≡ channel }
-{
-    match channel {
-        Channel::Load => 0,
-        Channel::Generation => 1,
-    }
-}
-
-#[tactic(auto, unfolding(crate::specs::Layout::unit_from))]
-fn unit_words(unit: Unit) -> [u32; 7]
+#[tactic(auto, unfolding(crate::specs::Layout::unit_from), using(crate::proofs::Parts::channel_back))]
+fn unit_words(unit: Unit) -> [u32; UNIT_SIZE]
     ensures { unit_from result ≡ unit }
 {
     match unit {
         Unit::None => [0, 0, 0, 0, 0, 0, 0],
-        Unit::Takes(first, p) => [1, first, p.read, p.due, p.day, 0, channel_word(p.channel)],
+        Unit::Takes(first, p) => [1, first, p.read, p.due, p.day, 0, u32::from(p.channel)],
         Unit::Waits(first, last, ready) => [
             2,
             first,
@@ -170,7 +159,7 @@ fn unit_words(unit: Unit) -> [u32; 7]
             u32::from(ready.meter),
             u32::from(ready.offset),
             ready.day,
-            channel_word(ready.channel),
+            u32::from(ready.channel),
         ],
         Unit::Skips => [3, 0, 0, 0, 0, 0, 0],
     }
@@ -178,7 +167,7 @@ fn unit_words(unit: Unit) -> [u32; 7]
 
 // The bytes held, the bytes taken and the line count.
 #[tactic(auto, unfolding(crate::specs::Layout::wide_in))]
-fn number_words(held: usize, taken: usize, lines: u32) -> [u32; 5]
+fn number_words(held: usize, taken: usize, lines: u32) -> [u32; NUMBERS_SIZE]
     ensures { (wide_in result 0 ≡ held) × (wide_in result 2 ≡ taken) × (get_or result 4 0 ≡ lines) }
 {
     [
@@ -191,17 +180,17 @@ fn number_words(held: usize, taken: usize, lines: u32) -> [u32; 5]
 }
 
 // The words of a state.
-pub fn put_state(state: &mut [u32], given: &State)
-    requires { length state.old ≡ state_words }
+pub fn put_state(state: &mut [u32; STATE_WORDS], given: &State)
     ensures { state_in state.new ≡ given.now }
 {
     let scan = &given.scan;
+    let parts = &scan.parts;
     let numbers = number_words(scan.held, given.taken, scan.lines);
     let unit = unit_words(scan.unit);
-    put_bytes(state, 0, &scan.kept);
-    put_words(state, NUMBERS_AT, &numbers);
-    put_words(state, UNIT_AT, &unit);
-    put_bytes(state, ID_AT, &scan.parts.id);
-    put_bytes(state, SENDER_AT, &scan.parts.sender);
-    put_words(state, WORDS_AT, &scan.parts.words);
+    put_bytes(&mut state[..NUMBERS_AT], &scan.kept);
+    state[NUMBERS_AT..UNIT_AT].copy_from_slice(&numbers);
+    state[UNIT_AT..ID_AT].copy_from_slice(&unit);
+    put_bytes(&mut state[ID_AT..SENDER_AT], &parts.id);
+    put_bytes(&mut state[SENDER_AT..WORDS_AT], &parts.sender);
+    state[WORDS_AT..].copy_from_slice(&parts.words);
 }

@@ -2,10 +2,12 @@
 -- Assumes nothing.
 use mathlib.Core.Path.{◌≡◌, refl, sym}
 use mathlib.Core.List.{List, [], ◌∷◌}
-use mathlib.Core.Bool.{Bool, true, false, ◌&&◌, ◌||◌}
+use mathlib.Core.Bool.{Bool, true, false, not, ◌&&◌, ◌||◌}
 use Prim.Native.Nat.{ℕ, zero, suc}
 use native.Mathlib.Omega.{arith}
+use lib.Dec.{leb, ltb}
 use lib.ListN.{get_or}
+use borrow.Author.Tests.{lt-ltb, le-ltb, leb-true, leb-false}
 
 pub apart : ◌≡◌ {A = Bool} false true → ⊥
 apart e = let z : ◌≡◌ {A = ℕ} 0 1 = cc in omega arith
@@ -32,6 +34,14 @@ and_each a [] h (suc k) = refl
 and_each a (b ∷ bs) h zero = and_left a b (and_each (a && b) bs h zero)
 and_each a (b ∷ bs) h (suc zero) = and_right a b (and_each (a && b) bs h zero)
 and_each a (b ∷ bs) h (suc (suc k)) = and_each (a && b) bs h (suc k)
+
+-- what fits, as the code tests it and as a definition does
+pub fits-tested : (a b : ℕ) → leb a b ≡ not (ltb b a)
+fits-tested a b = by_test (leb a b) refl
+  where
+    by_test : (t : Bool) → leb a b ≡ t → t ≡ not (ltb b a)
+    by_test true e = rw (le-ltb b a (leb-true a b e))
+    by_test false e = rw (lt-ltb b a (leb-false a b e))
 
 pub or_right : (a b : Bool) → (a || b) ≡ true → a ≡ false → b ≡ true
 or_right true b h e = absurd (apart (sym e))

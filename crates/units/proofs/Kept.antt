@@ -1,8 +1,8 @@
 -- What a line does to the unit that is kept, at each unit and each kind of line.
 -- Assumes nothing.
 use mathlib.Core.Path.{◌≡◌, refl}
+use mathlib.Core.Logic.{◌⊎◌, inl, inr}
 use mathlib.Core.List.{List, ◌++◌, append-nil}
-use mathlib.Core.Bool.{Bool, true, false}
 use Prim.Native.Nat.{ℕ}
 use Rattle.std.specs.Prelude.{None as Nothing}
 use Rattle.text.specs.Byte.{Bytes}
@@ -11,11 +11,15 @@ use Rattle.lines.specs.declared.line.Kind.{Kind}
 use Rattle.lines.specs.declared.line.Kind.TheVariants.{Empty, Opener, Detail, Other}
 use Rattle.cell.specs.Layout.{Words}
 use Rattle.report.specs.declared.Entry.{Entry}
-use Rattle.plain.specs.Rows.{Rows, Rules, first_row, next_row, rules_of}
+use Rattle.plain.specs.Rows.{Record, Rows, Rules, first_row, next_row, rules_of}
 use Rattle.plain.specs.Table.{load_all}
 use Rattle.plain.specs.Loader.{OpenUnit, no_unit, takes_rows, waits, skips, close, settle, entries_of, loads_of, step_kind, step_line}
 use Rattle.plain.proofs.Pieces.{entries-append, loads-append}
-use Rattle.units.specs.Answer.{told, ended, read_by, quiet_step, Reads, Does, stray_from, kind_if}
+use Rattle.records.specs.declared.Progress.{Progress}
+use Rattle.records.specs.declared.Parts.{Parts}
+use Rattle.units.specs.declared.Unit.{Unit as KeptUnit}
+use Rattle.units.specs.declared.Unit.TheVariants.{None, Takes, Waits, Skips}
+use Rattle.units.specs.Answer.{unit_of, told, ended, read_by, checked_at, quiet_step, Reads, Does, stray_from}
 
 -- ---- A LINE IN TWO PARTS
 
@@ -56,22 +60,38 @@ pub quiet-reads : (u : OpenUnit) → Reads (quiet_step u) u (told Nothing)
 unfolding entries_of loads_of
 quiet-reads u = record { leaves = refl; entered = refl; none = refl }
 
+-- what holds of a unit that takes no rows is left
+pub kept-reads : (reg : Bytes) (n : ℕ) (parts : Parts) (unit : KeptUnit) → ((first : ℕ) (p : Progress) → unit ≡ Takes first p → ⊥)
+    → Reads (checked_at reg n (unit_of unit parts)) (unit_of unit parts) (told Nothing)
+kept-reads reg n parts None h = quiet-reads _
+kept-reads reg n parts (Takes first p) h = absurd (h first p refl)
+kept-reads reg n parts (Waits first last ready) h = quiet-reads _
+kept-reads reg n parts Skips h = quiet-reads _
+
 -- a line that is neither empty nor an opener: a detail line, or another
 module _ (n : ℕ) (l : Line) (reg : Bytes) where
-  pub stray-reads : (b : Bool) → Reads (read_by (rules_of reg) (kind_if b) n l no_unit) skips (told (stray_from n).said)
+  pub stray-reads : (k : Kind) → (k ≡ Detail) ⊎ (k ≡ Other) → Reads (read_by (rules_of reg) k n l no_unit) skips (told (stray_from n).said)
   unfolding step_kind entries_of loads_of
-  stray-reads true = record { leaves = refl; entered = refl; none = refl }
-  stray-reads false = record { leaves = refl; entered = refl; none = refl }
+  stray-reads k (inl e) = rw e (record { leaves = refl; entered = refl; none = refl })
+  stray-reads k (inr e) = rw e (record { leaves = refl; entered = refl; none = refl })
 
-  pub skips-reads : (b : Bool) → Reads (read_by (rules_of reg) (kind_if b) n l skips) skips (told Nothing)
+  -- behind a record that waits, by any but a detail line
+  pub behind-reads : (k : Kind) → (k ≡ Detail) ⊎ (k ≡ Other) → (k ≡ Detail → ⊥) → (first last : ℕ) (r : Record)
+      → Reads (read_by (rules_of reg) k n l (waits first last r)) skips (told (stray_from n).said)
+  unfolding step_kind entries_of loads_of
+  behind-reads k (inl e) other first last r = absurd (other e)
+  behind-reads k (inr e) other first last r = rw e (record { leaves = refl; entered = refl; none = refl })
+
+  pub skips-reads : (k : Kind) → (k ≡ Detail) ⊎ (k ≡ Other) → Reads (read_by (rules_of reg) k n l skips) skips (told Nothing)
   unfolding step_kind
-  skips-reads true = quiet-reads skips
-  skips-reads false = quiet-reads skips
+  skips-reads k (inl e) = rw e (quiet-reads skips)
+  skips-reads k (inr e) = rw e (quiet-reads skips)
 
-  pub row-reads : (b : Bool) (first : ℕ) (rows : Rows) → read_by (rules_of reg) (kind_if b) n l (takes_rows first rows) ≡ settle first n (next_row reg rows l)
+  pub row-reads : (k : Kind) → (k ≡ Detail) ⊎ (k ≡ Other) → (first : ℕ) (rows : Rows)
+      → read_by (rules_of reg) k n l (takes_rows first rows) ≡ settle first n (next_row reg rows l)
   unfolding step_kind rules_of
-  row-reads true first rows = refl
-  row-reads false first rows = refl
+  row-reads k (inl e) first rows = rw e
+  row-reads k (inr e) first rows = rw e
 
 pub opener-reads : (reg : Bytes) (n : ℕ) (l : Line) (u v : OpenUnit) (said : List Entry) → Reads (settle n n (first_row l)) v said
     → Reads (read_by (rules_of reg) Opener n l u) v said

@@ -108,11 +108,6 @@ surplus_at first n ready = record { unit = Skips; said = Some (entry_of first su
 abbrev pub quietly : KeptUnit → Stepped
 quietly unit = record { unit = unit; said = Nothing }
 
--- a line that is neither empty nor an opener: a detail line, or another
-abbrev pub kind_if : Bool → Kind
-kind_if true = Detail
-kind_if false = Other
-
 -- ---- THE TABLE
 
 -- the table has room for the registry's cells

@@ -10,16 +10,15 @@
 
 ghost use Rattle.std.specs.Prelude.{◌≡◌, Ok, ℕ, suc, ◌≤◌};
 ghost use Rattle.lines.specs.Answer.{line_of};
-ghost use Rattle.lines.specs.declared.line.Kind.TheVariants.{Other};
 ghost use Rattle.plain.specs.Rows.{max_details, first_row, rules_of};
 ghost use Rattle.plain.specs.Table.{load_all};
 ghost use Rattle.plain.specs.Loader.{close, settle as settles, entries_of, loads_of, step_line};
 ghost use Rattle.plain.specs.Promise.{details_in};
 ghost use Rattle.records.specs.Answer.{row_says};
 ghost use Rattle.records.specs.declared.Parts.{Parts};
-ghost use Rattle.units.specs.Answer.{unit_of, told, told_by, ended, read_by, judged_if, quiet_step, Reads, Does, refused_at, stray_from, surplus_at, quietly, kind_if, HasRoom};
+ghost use Rattle.units.specs.Answer.{unit_of, told, told_by, ended, read_by, judged_if, quiet_step, Reads, Does, refused_at, stray_from, surplus_at, quietly, HasRoom};
 
-use cells::{Address, cell_number, channel_number};
+use cells::{Address, cell_number};
 use lines::line::{Kind, Line, kind_of};
 use reads::load;
 use records::{After, Parts, Progress, Ready, check, row_next, row_one};
@@ -57,23 +56,10 @@ pub struct LineRead {
 fn ended_by(kind: Kind, unit: Unit) -> Unit
     ensures { (r : Parts) → unit_of result r ≡ ended kind (unit_of unit r) }
 {
-    match kind {
-        Kind::Empty => Unit::None,
-        Kind::Opener => unit,
-        Kind::Detail => Unit::None,
-        Kind::Other => waiting(unit),
-    }
-}
-
-// The unit, if it waits.
-fn waiting(unit: Unit) -> Unit
-    ensures { (r : Parts) → unit_of result r ≡ ended Other (unit_of unit r) }
-{
-    match unit {
-        Unit::None => Unit::None,
-        Unit::Takes(_, _) => Unit::None,
-        Unit::Waits(_, _, _) => unit,
-        Unit::Skips => Unit::None,
+    match (kind, unit) {
+        (Kind::Opener, _) => unit,
+        (Kind::Other, Unit::Waits(_, _, _)) => unit,
+        _ => Unit::None,
     }
 }
 
@@ -89,7 +75,7 @@ pub fn closing(unit: Unit, n: u32) -> Option<Entry>
     ensures { (r : Parts) → told result ≡ entries_of (close n (unit_of unit r)) }
 {
     match unit {
-        Unit::None => None,
+        Unit::None | Unit::Skips => None,
         Unit::Takes(first, p) => Some(Entry {
             first,
             verdict: u32::from(Verdict::Short),
@@ -104,7 +90,6 @@ pub fn closing(unit: Unit, n: u32) -> Option<Entry>
             meter: meter_number(ready),
             day: ready.day,
         }),
-        Unit::Skips => None,
     }
 }
 
@@ -118,7 +103,7 @@ pub fn load_waiting(unit: Unit, index: &Index<'_>, parts: &Parts, table: &mut [u
     };
     let at = Address {
         meter: usize::from(ready.meter),
-        channel: channel_number(ready.channel),
+        channel: u32::from(ready.channel) as usize,
         day: usize::from(ready.offset),
     };
     let meters = index.meters();
@@ -203,43 +188,14 @@ fn open(n: u32, line: Line<'_>, parts: &mut Parts) -> Stepped
     }
 }
 
-// A line that is neither empty nor an opener: a detail line, or another.
-fn go_on(
-    unit: Unit,
-    n: u32,
-    detail: bool,
-    line: Line<'_>,
-    index: &Index<'_>,
-    hint: usize,
-    parts: &mut Parts,
-) -> Stepped
-    requires { details_in (unit_of unit parts.old) ≤ max_details }
-    ensures { Reads (read_by (rules_of index.now) (kind_if detail) n (line_of line.entry) (unit_of unit parts.old)) (unit_of result.unit parts.new) (told result.said) }
-{
-    match unit {
-        Unit::None => stray(n),
-        Unit::Takes(first, p) => {
-            let row = row_next(p, line, index, hint, parts);
-            settle(first, n, row, p.day)
-        }
-        Unit::Waits(first, _, ready) => {
-            if detail {
-                return surplus(first, n, ready);
-            }
-            stray(n)
-        }
-        Unit::Skips => quiet(unit),
-    }
-}
-
-// Line n of the file is read, once the unit that it ends has ended.
+// Line n of the file is read, once the unit that it ends has ended. Tried: a match on the pair of kind and unit. The borrow checker has no rule for an arm
+// of it that binds what the unit holds.
 fn step(
     unit: Unit,
     kind: Kind,
     n: u32,
     line: Line<'_>,
     index: &Index<'_>,
-    hint: usize,
     parts: &mut Parts,
 ) -> Stepped
     requires { details_in (unit_of unit parts.old) ≤ max_details }
@@ -248,33 +204,34 @@ fn step(
     match kind {
         Kind::Empty => quiet(unit),
         Kind::Opener => open(n, line, parts),
-        Kind::Detail => go_on(unit, n, true, line, index, hint, parts),
-        Kind::Other => go_on(unit, n, false, line, index, hint, parts),
+        Kind::Detail | Kind::Other => match unit {
+            Unit::None => stray(n),
+            Unit::Takes(first, p) => {
+                let row = row_next(p, line, index, parts);
+                settle(first, n, row, p.day)
+            }
+            Unit::Waits(first, _, ready) => match kind {
+                Kind::Detail => surplus(first, n, ready),
+                _ => stray(n),
+            },
+            Unit::Skips => quiet(unit),
+        },
     }
 }
 
 // All rows of a record are in, the last of them at line n, if `all` says so: the registry checks. What holds of any other unit is left.
-pub fn judged(
-    unit: Unit,
-    all: bool,
-    n: u32,
-    index: &Index<'_>,
-    hint: usize,
-    parts: &Parts,
-) -> Stepped
+pub fn judged(unit: Unit, all: bool, n: u32, index: &Index<'_>, parts: &Parts) -> Stepped
     ensures { Reads (judged_if all index.now n (unit_of unit parts.now)) (unit_of result.unit parts.now) (told result.said) }
 {
     if !all {
         return quiet(unit);
     }
-    match unit {
-        Unit::None => quiet(unit),
-        Unit::Takes(first, p) => match check(p, index, hint, parts) {
-            Err(fault) => refused(first, fault, n, p.day),
-            Ok(ready) => quiet(Unit::Waits(first, n, ready)),
-        },
-        Unit::Waits(_, _, _) => quiet(unit),
-        Unit::Skips => quiet(unit),
+    let Unit::Takes(first, p) = unit else {
+        return quiet(unit);
+    };
+    match check(p, index, parts) {
+        Err(fault) => refused(first, fault, n, p.day),
+        Ok(ready) => quiet(Unit::Waits(first, n, ready)),
     }
 }
 
@@ -284,7 +241,6 @@ pub fn read_line(
     n: u32,
     line: Line<'_>,
     index: &Index<'_>,
-    hint: usize,
     parts: &mut Parts,
     table: &mut [u32],
 ) -> LineRead
@@ -296,7 +252,7 @@ pub fn read_line(
     let before = ended_by(kind, unit);
     load_waiting(before, index, parts, table);
     let first = closing(before, n);
-    let next = step(unit, kind, n, line, index, hint, parts);
+    let next = step(unit, kind, n, line, index, parts);
     LineRead {
         unit: next.unit,
         first,

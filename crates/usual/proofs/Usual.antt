@@ -20,7 +20,10 @@ use Rattle.text.proofs.Left.{left-cons, left-whole}
 use Rattle.text.proofs.Equal.{equals_path, equals_refl, starts_whole}
 use Rattle.text.proofs.Comma.{digits-no-comma, alnum_no_comma, cut_field, cut-alone}
 use Rattle.lines.specs.Line.{line_limit, cr_size, is_long}
-use Rattle.report.specs.Outcome.{passed, require}
+use Rattle.std.specs.Prelude.{Result, Ok, Err, Some}
+use Rattle.std.specs.Result.{result_ok}
+use Rattle.report.specs.declared.verdict.Verdict.{Verdict}
+use Rattle.report.specs.Outcome.{passed, require, says}
 use Rattle.lines.specs.Row.{fields_of}
 use Rattle.report.specs.Verdict.{misfit}
 use Rattle.lines.specs.Answer.{line_with}

@@ -32,9 +32,7 @@ fn usual_four(line: &[u8]) -> Option<Stamp>
     if !shaped {
         return None;
     }
-    let Ok(time) = read_time(&line[STAMP_AT..STAMP_END]) else {
-        return None;
-    };
+    let time = read_time(&line[STAMP_AT..STAMP_END]).ok()?;
     Some(Stamp::from(time))
 }
 

@@ -70,9 +70,7 @@ fn usual_one(line: &[u8]) -> Option<One<'_>>
     if !is_date(day) {
         return None;
     }
-    let Ok(channel) = read_channel(&tail[CHANNEL_AT..CHANNEL_END]) else {
-        return None;
-    };
+    let channel = read_channel(&tail[CHANNEL_AT..CHANNEL_END]).ok()?;
     Some(One { id, channel, day })
 }
 

@@ -7,7 +7,6 @@ use cell::Cell;
 use input::read_file;
 use loader::{feed, finish};
 use print::{Stop, columns, ended, entries};
-use reads::cell_at;
 use report::words::PER_ENTRY;
 use show::cell_line;
 use state::fresh;
@@ -30,8 +29,9 @@ const FILE_SIZE: usize = 262_144;
 
 // Each cell that holds a read.
 fn cells_of(rt: &impl Print, table: &[u32; TABLE_WORDS]) -> io::Result<()> {
-    for c in 0..CELLS {
-        cell_line(rt, c, cell_at(table, c))?;
+    let (cells, _) = table.as_chunks::<{ Cell::WIDTH }>();
+    for (c, words) in cells.iter().enumerate() {
+        cell_line(rt, c, words)?;
     }
     Ok(())
 }

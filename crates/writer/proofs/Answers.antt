@@ -1,20 +1,19 @@
 -- What Write answers, by the tests that lead to it.
 -- Assumes nothing.
-use mathlib.Core.Path.{◌≡◌, refl, sym}
-use mathlib.Core.List.{◌++◌}
-use mathlib.Core.Bool.{Bool, true, false, not, ◌&&◌}
+use mathlib.Core.Path.{◌≡◌, sym}
+use mathlib.Core.List.{[]}
+use mathlib.Core.Bool.{Bool, true, ◌&&◌}
 use Prim.Native.Nat.{ℕ, ◌+◌, ◌≤◌}
 use native.Mathlib.Omega.{arith}
-use lib.Dec.{leb, ltb}
-use lib.ListN.{length, take, drop, length-append}
-use lib.Seq.{take_at}
-use borrow.Author.Tests.{lt-ltb, le-ltb, leb-true, leb-false}
+use lib.Dec.{leb}
+use lib.ListN.{length}
+use borrow.Author.Tests.{leb-true}
 use Rattle.calendar.specs.Day.{last_day}
 use Rattle.calendar.specs.Answer.{date_is}
 use Rattle.calendar.proofs.Laws.{date_is_lem}
 use Rattle.text.specs.Byte.{Bytes, every, is_alnum}
-use Rattle.text.specs.Identifier.{descriptor_size, is_name, is_descriptor}
-use Rattle.text.proofs.Truth.{and_left, and_right}
+use Rattle.text.specs.Identifier.{esi_id_size, duns_size, descriptor_size, is_name, is_descriptor}
+use Rattle.text.proofs.Truth.{and_left, and_right, fits-tested}
 use Rattle.report.specs.Outcome.{passed, require, ◌>>◌}
 use Rattle.report.specs.Refusal.{short_output}
 use Rattle.padded.specs.Padding.{unpad}
@@ -27,30 +26,20 @@ use Rattle.cell.specs.Layout.{Words}
 use Rattle.reads.proofs.SoundParts.{SoundParts, sound-parts}
 use Rattle.cells.specs.Sound.{day_intervals, sound_cell}
 use Rattle.cells.proofs.Passed.{FoundCell, found-cell}
-use Rattle.digits.specs.Put.{Put, put_at}
-use Rattle.writer.specs.Record.{record_text, record_limit, cell_text}
+use Rattle.writer.specs.Record.{record_text, cell_text}
 use Rattle.writer.specs.Private.{Writable}
 use Rattle.writer.specs.Write.{fitting}
-use Rattle.writer.proofs.Records.{record-most}
 
 -- ---- THE OUTPUT'S ROOM, as the code tests it
 
 pub fitting-tested : (output text : Bytes) → fitting output (passed text) ≡ (require (leb (length text) (length output)) short_output >> passed text)
 unfolding fitting
-fitting-tested output text = rw (tested (leb (length text) (length output)) refl)
-  where
-    tested : (t : Bool) → leb (length text) (length output) ≡ t → not (ltb (length output) (length text)) ≡ t
-    tested true e = rw (le-ltb (length output) (length text) (leb-true (length text) (length output) e))
-    tested false e = rw (lt-ltb (length output) (length text) (leb-false (length text) (length output) e))
+fitting-tested output text = rw (fits-tested (length text) (length output))
 
--- ---- THE RECORD'S BYTES, put together from place 0 on
+-- ---- THE RECORD
 
-pub put_front : (a text b : Bytes) (r : ℕ) → Put a 0 text b r → (take r b ≡ text) × (r ≤ length b)
-unfolding put_at
-put_front a text b r p =
-    let e : r ≡ length text = omega (arith, p.behind) in
-    let front : b ≡ text ++ drop (0 + length text) a = p.bytes in
-    (rw front (take_at text (drop (0 + length text) a) r (sym e)), rw front (omega (arith, length-append text (drop (0 + length text) a))))
+pub behind_none : {t : Bytes} (x : Bytes) {n : ℕ} → t ≡ [] → length x ≤ n → length t + length x ≤ n
+behind_none x e h = rw e (omega arith)
 
 -- a cell's record, by what an index tells of its registry
 pub cell-text : {reg : Bytes} {m d : ℕ} {descriptor : Bytes} {w : Words} {window : Window} {id id' owner owner' : Bytes} {date : ℕ} (c : ℕ)
@@ -62,14 +51,15 @@ cell-text {reg} {m} {d} c asked told e ei f eo ed =
     let last : (window_is reg).first + d ≤ last_day = omega (arith, asked.day, (sound-window reg told.1).ends) in
     rw (e, ei, f, eo, ed, told.0, date_is_lem ((window_is reg).first + d) last)
 
--- it is no longer than the longest record
-pub cell-most : {reg : Bytes} {m d : ℕ} {descriptor : Bytes} {w : Words} (c : ℕ) → Writable reg m d descriptor w
-    → length (cell_text reg m c d descriptor w) ≤ record_limit
-unfolding cell_text
-cell-most {reg} {m} {d} {descriptor} {w} c asked =
-    let formed : Formed (meter_at reg m) = meter-formed reg m asked.meter in
-    record-most (unpad (meter_at reg m).id) (unpad (meter_at reg m).owner) c _ descriptor w
-    (omega (arith, unpad-within (meter_at reg m).id, formed.id-size)) (omega (arith, unpad-within (meter_at reg m).owner, formed.owner-size)) asked.short asked.few
+-- how long its meter's identifiers are
+pub meter-short : {reg : Bytes} {m d : ℕ} {descriptor : Bytes} {w : Words} {id id' owner owner' : Bytes} → Writable reg m d descriptor w
+    → id ≡ unpad id' → id' ≡ (meter_at reg m).id → owner ≡ unpad owner' → owner' ≡ (meter_at reg m).owner
+    → (length id ≤ esi_id_size) × (length owner ≤ duns_size)
+meter-short {reg} {m} asked e ei f eo =
+    let formed : Formed (meter_at reg m) = meter-formed reg m asked.meter in (
+      rw (e, ei) (omega (arith, unpad-within (meter_at reg m).id, formed.id-size)),
+      rw (f, eo) (omega (arith, unpad-within (meter_at reg m).owner, formed.owner-size)),
+    )
 
 -- ---- THE CALL
 

@@ -4,7 +4,6 @@ use mathlib.Core.Path.{◌≡◌, refl, sym, ap, ◌∙◌}
 use mathlib.Core.List.{List, [], ◌∷◌, ◌++◌, append_assoc, append-nil}
 use mathlib.Core.Bool.{Bool, true, false}
 use Prim.Native.Nat.{ℕ, zero, suc, ◌+◌, ◌*◌, ◌/◌, ◌<◌, ◌≤◌}
-use native.Mathlib.Nat.{add-zero}
 use native.Mathlib.Numerals.{add-one}
 use native.Mathlib.Omega.{arith}
 use lib.ListN.{length, get_or, length-append, length-drop, take-append-drop}
@@ -16,19 +15,15 @@ use Rattle.text.specs.Identifier.{esi_id_size, duns_size, descriptor_size}
 use Rattle.text.proofs.Class.{every-at}
 use Rattle.lines.specs.Line.{LF}
 use Rattle.details.specs.Detail.{per_row}
-use Rattle.headers.specs.declared.time.Stamp.{Stamp}
 use Rattle.details.specs.declared.detail.Interval.{Interval}
 use Rattle.cell.specs.Layout.{Words, width, count_at, values_at, max_intervals}
 use Rattle.cell.specs.Read.{interval_in, stamp_in}
 use Rattle.reads.specs.Sound.{max_value, is_value, values_of}
 use Rattle.rowtext.specs.Text.{row, rows, line_one, line_two, line_three, line_four, line_thirty, line_detail}
-use Rattle.digits.specs.Put.{Room, Put, put_at}
 use Rattle.rowtext.specs.Value.{value_end}
-use Rattle.digits.proofs.Puts.{put_both}
 use Rattle.rowtext.proofs.Lengths.{one-length, three-length, four-length, thirty-length, detail_length}
 use Rattle.writer.specs.Record.{row_of, detail_line, detail_lines, record_lines, record_text, record_limit}
 use Rattle.std.specs.List.{All}
-use Rattle.std.proofs.lemmas.List.Elements.{All-cons, All-nil}
 
 -- ---- DETAIL ROWS
 
@@ -70,35 +65,30 @@ module _ (w : Words) (wide : length w ≡ width) (values : every is_value (value
       let v : is_value (get_or (values_of w) i 0) ≡ true = every-at is_value (values_of w) i values (omega (arith, length-drop values_at w)) in
       omega (arith, leb-true (get_or (values_of w) i 0) max_value v, get_or-drop values_at w i 0)
 
--- detail row k, given by its intervals: there is room for it behind those before it, and it is put there
-module _ (before out : Bytes) (at end k : ℕ) (w : Words) (a b c d : Interval)
-    (ea : a ≡ interval_in w (k * per_row)) (eb : b ≡ interval_in w (k * per_row + 1)) (ec : c ≡ interval_in w (k * per_row + 2)) (ed : d ≡ interval_in w (k * per_row + 3))
-    (so_far : Put before at (rows (detail_lines k w)) out end) where
-  pub row_room : (n : ℕ) → k < n → length out ≡ length before → Room before at (rows (detail_lines n w)) → Room out end (row (line_detail k (a ∷ b ∷ c ∷ d ∷ [])))
-  row_room n l same room =
-      rw (ea, eb, ec, ed) (omega (arith, so_far.behind, details-size k w, details_grow n k w l, room, same))
+-- detail row k behind a text t and the rows before it: there is room for it, and it is the next
+module _ (t u : Bytes) (k : ℕ) (w : Words) (found : List Interval) (e : found ≡ row_of w k) (so_far : u ≡ t ++ rows (detail_lines k w)) where
+  pub row_room : {size : ℕ} (n : ℕ) → k < n → length t + length (rows (detail_lines n w)) ≤ size → length u + length (row (line_detail k found)) ≤ size
+  row_room n l room =
+      let before : length u ≡ length t + length (rows (detail_lines k w)) = ap length so_far ∙ length-append t (rows (detail_lines k w)) in
+      rw e (omega (arith, before, details-size k w, details_grow n k w l, room))
 
-  pub row_fits : (n : ℕ) → k < n → n * per_row ≤ max_intervals → length w ≡ width → every is_value (values_of w) ≡ true
-      → All (λ v. v.wh < value_end) (a ∷ b ∷ c ∷ d ∷ [])
-  row_fits n l most wide values =
-      All-cons Fits a (b ∷ c ∷ d ∷ []) (fits a _ ea (omega (arith, l, most)))
-      (All-cons Fits b (c ∷ d ∷ []) (fits b _ eb (omega (arith, l, most)))
-      (All-cons Fits c (d ∷ []) (fits c _ ec (omega (arith, l, most)))
-      (All-cons Fits d [] (fits d _ ed (omega (arith, l, most))) (All-nil Fits))))
-    where
-      Fits : Interval → Type 0
-      Fits v = v.wh < value_end
+  pub row_again : {v : Bytes} → v ≡ u ++ row (line_detail k found) → v ≡ t ++ rows (detail_lines (k + 1) w)
+  row_again p = p ∙ rw (so_far, e, details-next k w) (append_assoc t (rows (detail_lines k w)) (row (detail_line w k)))
 
-      fits : (v : Interval) (i : ℕ) → v ≡ interval_in w i → i < max_intervals → Fits v
-      fits v i e h = rw e (value-small w wide values i h)
+module _ (n k : ℕ) (w : Words) (l : k < n) (most : n * per_row ≤ max_intervals) (wide : length w ≡ width) (values : every is_value (values_of w) ≡ true) where
+  row_fits : All (λ v. v.wh < value_end) (row_of w k)
+  row_fits zero v h = value-small w wide values (k * per_row) (omega (arith, l, most))
+  row_fits (suc zero) v h = value-small w wide values (k * per_row + 1) (omega (arith, l, most))
+  row_fits (suc (suc zero)) v h = value-small w wide values (k * per_row + 2) (omega (arith, l, most))
+  row_fits (suc (suc (suc zero))) v h = value-small w wide values (k * per_row + 3) (omega (arith, l, most))
+  row_fits (suc (suc (suc (suc i)))) v h = absurd (omega arith)
 
-  pub row_again : {new : Bytes} {next : ℕ} → at ≤ length before → Put out end (row (line_detail k (a ∷ b ∷ c ∷ d ∷ []))) new next
-      → Put before at (rows (detail_lines (k + 1) w)) new next
-  row_again h p = rw (details-next k w) (put_both h so_far (rw (ea, eb, ec, ed) at p))
+  pub found_fits : (found : List Interval) → found ≡ row_of w k → All (λ v. v.wh < value_end) found
+  found_fits found e = rw e row_fits
 
-pub none-put : (bytes : Bytes) (at : ℕ) (w : Words) → Put bytes at (rows (detail_lines 0 w)) bytes at
-unfolding put_at detail_lines rows
-none-put bytes at w = record { behind = omega arith; bytes = sym (simp (append-nil, add-zero, take-append-drop)) }
+pub no_rows : (t : Bytes) (w : Words) → t ≡ t ++ rows (detail_lines 0 w)
+unfolding detail_lines rows
+no_rows t w = sym (append-nil t)
 
 details-most : (n : ℕ) (w : Words) → length (rows (detail_lines n w)) ≤ n * 66
 unfolding detail_lines rows
@@ -128,14 +118,6 @@ module _ (id owner : Bytes) (c date : ℕ) (descriptor : Bytes) (w : Words) wher
       + length (rows (detail_lines (get_or w count_at 0 / per_row) w))
   record-size = rw record_is_lem (simp length-append)
 
-  pub record-put : {a₁ a₂ a₃ a₄ a₅ a₆ : Bytes} {r₁ r₂ r₃ r₄ r₅ r₆ : ℕ} (a : Bytes) (stamp : Stamp) → stamp ≡ stamp_in w
-      → Put a 0 (row (line_one id c date)) a₁ r₁ → Put a₁ r₁ (row line_two) a₂ r₂ → Put a₂ r₂ (row (line_three descriptor)) a₃ r₃
-      → Put a₃ r₃ (row (line_four stamp)) a₄ r₄ → Put a₄ r₄ (row (line_thirty owner)) a₅ r₅
-      → Put a₅ r₅ (rows (detail_lines (get_or w count_at 0 / per_row) w)) a₆ r₆ → Put a 0 (record_text id owner c date descriptor w) a₆ r₆
-  record-put a stamp e p₁ p₂ p₃ p₄ p₅ p₆ =
-      let z : 0 ≤ length a = omega arith in
-      rw record_is_lem (put_both z (put_both z (put_both z (put_both z (put_both z p₁ p₂) p₃) (rw e at p₄)) p₅) p₆)
-
   -- the longest record
   pub record-most : length id ≤ esi_id_size → length owner ≤ duns_size → length descriptor ≤ descriptor_size → get_or w count_at 0 ≤ max_intervals
       → length (record_text id owner c date descriptor w) ≤ record_limit
@@ -153,3 +135,5 @@ module _ (id owner : Bytes) (c date : ℕ) (descriptor : Bytes) (w : Words) wher
         thirty-length owner,
         details-most (get_or w count_at 0 / per_row) w,
       ))
+
+pub ruleset record_parts = (append_assoc, length-append, record_is_lem)

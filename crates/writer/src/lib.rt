@@ -9,73 +9,75 @@
 // its length is known before a byte of the output changes.
 #![tactic(auto)]
 
-ghost use Rattle.std.specs.Prelude.{◌≡◌, true, ◌<◌, ◌≤◌, ◌*◌, length, get_or};
+ghost use Rattle.std.specs.Prelude.{◌≡◌, true, ◌++◌, ◌<◌, ◌≤◌, ◌+◌, ◌*◌, length, get_or};
 ghost use Rattle.report.specs.Outcome.{passed, answers};
 ghost use Rattle.details.specs.Detail.{per_row};
 ghost use Rattle.cell.specs.Layout.{count_at, max_intervals};
 ghost use Rattle.reads.specs.Sound.{is_value, values_of};
 ghost use Rattle.text.specs.Byte.{every};
 ghost use Rattle.rowtext.specs.Text.{rows};
-ghost use Rattle.digits.specs.Put.{Room, Put};
-ghost use Rattle.writer.specs.Record.{detail_lines, record_text, cell_text};
+ghost use Rattle.writer.specs.Record.{row_of, detail_lines, record_text, cell_text};
 ghost use Rattle.writer.specs.Private.{Writable};
 ghost use Rattle.writer.specs.Write.{fitting, writes, length_of, output_with};
 
 use calendar::date_of;
 use cell::{Cell, Words, interval_in, stamp_in};
 use cells::{Address, find_sound};
-use details::detail::PER_ROW;
+use details::detail::{PER_ROW, Row};
+use digits::Text;
 use padded::padding::unpadded;
 use registry::Index;
 use report::refusal::Refusal;
 use report::require;
 use rowtext::detail::put_detail;
 use rowtext::rows::{put_four, put_one, put_thirty, put_three, put_two};
+use std::array::from_fn;
 use text::names::is_descriptor;
 
 // The longest record.
 const RECORD_LIMIT: usize = 2000;
 
-// Puts the first n detail rows of a cell.
-fn put_details(out: &mut [u8], at: usize, words: &Words, n: u32) -> usize
-    requires words { (n * per_row ≤ max_intervals) × (every is_value (values_of words.now) ≡ true) }
-    requires room { Room out.old at (rows (detail_lines n words.now)) }
-    ensures { Put out.old at (rows (detail_lines n words.now)) out.new result }
+// The intervals of detail row k, from 0, of a cell.
+fn row_of(words: &Words, k: u32) -> Row
+    requires { k * per_row + per_row ≤ max_intervals }
+    ensures { result ≡ row_of words.now k }
 {
-    let mut end = at;
-    for k in 0..n {
-        let i = (k * PER_ROW) as usize;
-        let row = [
-            interval_in(words, i),
-            interval_in(words, i + 1),
-            interval_in(words, i + 2),
-            interval_in(words, i + 3),
-        ];
-        end = put_detail(out, end, k, &row);
-    }
-    end
+    let at = (k * PER_ROW) as usize;
+    from_fn(|i| interval_in(words, at + i))
 }
 
-// Puts a record from place 0 on; gives its length.
-fn put_record(
-    out: &mut [u8],
+// Puts the first n detail rows of a cell.
+fn put_details<const N: usize>(text: &mut Text<N>, words: &Words, n: u32)
+    requires words { (n * per_row ≤ max_intervals) × (every is_value (values_of words.now) ≡ true) }
+    requires room { length text.old + length (rows (detail_lines n words.now)) ≤ N }
+    ensures { text.new ≡ text.old ++ rows (detail_lines n words.now) }
+{
+    for k in 0..n {
+        put_detail(text, k, &row_of(words, k));
+    }
+}
+
+// Puts a record.
+#[tactic(auto, using(crate::proofs::Records::record_parts))]
+fn put_record<const N: usize>(
+    text: &mut Text<N>,
     id: &[u8],
     owner: &[u8],
     channel: usize,
     date: u32,
     descriptor: &[u8],
     words: &Words,
-) -> usize
+)
     requires words { (get_or words.now count_at 0 ≤ max_intervals) × (every is_value (values_of words.now) ≡ true) }
-    requires room { Room out.old 0 (record_text id.now owner.now channel date descriptor.now words.now) }
-    ensures { Put out.old 0 (record_text id.now owner.now channel date descriptor.now words.now) out.new result }
+    requires room { length text.old + length (record_text id.now owner.now channel date descriptor.now words.now) ≤ N }
+    ensures { text.new ≡ text.old ++ record_text id.now owner.now channel date descriptor.now words.now }
 {
-    let mut end = put_one(out, 0, id, channel, date);
-    end = put_two(out, end);
-    end = put_three(out, end, descriptor);
-    end = put_four(out, end, stamp_in(words));
-    end = put_thirty(out, end, owner);
-    put_details(out, end, words, words[Cell::COUNT] / PER_ROW)
+    put_one(text, id, channel, date);
+    put_two(text);
+    put_three(text, descriptor);
+    put_four(text, stamp_in(words));
+    put_thirty(text, owner);
+    put_details(text, words, words[Cell::COUNT] / PER_ROW);
 }
 
 // The record's bytes, put out if there is room.
@@ -104,9 +106,9 @@ fn write_cell(
     let id = unpadded(index.id_of(at.meter));
     let owner = unpadded(index.owner_of(at.meter));
     let date = date_of(index.window().first + at.day as u32);
-    let mut bytes = [0u8; RECORD_LIMIT];
-    let n = put_record(&mut bytes, id, owner, at.channel, date, descriptor, words);
-    put_out(output, &bytes[..n])
+    let mut text = Text::<RECORD_LIMIT>::new();
+    put_record(&mut text, id, owner, at.channel, date, descriptor, words);
+    put_out(output, text.bytes())
 }
 
 pub fn write(
@@ -119,9 +121,7 @@ pub fn write(
     ensures answer { answers result ≡ length_of (writes registry.now table.now at.meter at.channel at.day descriptor.now output.old) }
     ensures bytes { output.new ≡ output_with output.old (writes registry.now table.now at.meter at.channel at.day descriptor.now output.old) }
 {
-    let Some(index) = Index::of(registry) else {
-        return Err(Refusal::BadRegistry);
-    };
+    let index = Index::of(registry).ok_or(Refusal::BadRegistry)?;
     let words = find_sound(&index, table, at)?;
     require(is_descriptor(descriptor), Refusal::BadDescriptor)?;
     write_cell(&index, at, descriptor, words, output)

@@ -2,7 +2,7 @@
 -- Assumes nothing.
 use Rattle.batches.proofs.next_batch.Goals as goal
 
-pub returns : goal.returns
-returns c =
-    let runs = c.read_lines-run.ensures in
+pub returns-clause-read : goal.returns-clause-read
+returns-clause-read c =
+    let runs = c.read_lines-run.ensures.ran in
     record { behind = runs.moved c.requires.left; within = runs.within; room = runs.room; holds = runs.holds; ran = runs.ran }

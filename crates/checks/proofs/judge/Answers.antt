@@ -3,29 +3,35 @@
 use mathlib.Core.Path.{sym, ◌∙◌}
 use native.Mathlib.Numerals.{add-one}
 use native.Mathlib.Omega.{arith}
+use Rattle.report.proofs.Passing.{is-error, none-given}
 use Rattle.registry.proofs.Halves.{found-meter}
 use Rattle.registry.proofs.Laws.{meters-most}
-use Rattle.registry.specs.Registry.{meters_of}
 use Rattle.checks.specs.Check.{judge}
 use Rattle.checks.proofs.judge.Goals as goal
 
-pub returns-in_default : goal.returns-in_default
+pub returns-in_err-meter : goal.returns-in_err-meter
 unfolding judge
-returns-in_default c = rw (c.from.ensures, ← c.in_default.ensures)
+returns-in_err-meter c =
+    rw (
+      is-error _ _ c.from_residual.ensures.1,
+      none-given _ _ _ c.in_err-meter.ensures.value c.in_err-meter.ensures.ok_part,
+      ← c.find.ensures,
+      c.in_err-meter.ensures.ok_part,
+    )
 
-pub meter_checks-requires-clause-within : goal.meter_checks-requires-clause-within
-meter_checks-requires-clause-within c = (found-meter _ _ _ (sym c.in-Some.ensures)).0
+pub meter_checks-requires : goal.meter_checks-requires
+meter_checks-requires c = (found-meter _ _ _ (sym c.find.ensures ∙ c.in_ok-meter.ensures.ok_part)).0
 
 pub overflow_add-result : goal.overflow_add-result
-overflow_add-result c = omega (arith, (found-meter _ _ _ (sym c.in-Some.ensures)).0, meters-most c.args.index.now)
+overflow_add-result c = omega (arith, (found-meter _ _ _ (sym c.find.ensures ∙ c.in_ok-meter.ensures.ok_part)).0, meters-most c.args.index.now)
 
 pub overflow_cast-result : goal.overflow_cast-result
-overflow_cast-result c = omega (arith, (found-meter _ _ _ (sym c.in-Some.ensures)).0, meters-most c.args.index.now)
+overflow_cast-result c = omega (arith, (found-meter _ _ _ (sym c.find.ensures ∙ c.in_ok-meter.ensures.ok_part)).0, meters-most c.args.index.now)
 
 pub returns-in-Ok : goal.returns-in-Ok
 unfolding judge
-returns-in-Ok c = rw (← c.in-Some.ensures, ← c.in-Ok.ensures)
+returns-in-Ok c = rw (← c.find.ensures, c.in_ok-meter.ensures.ok_part, ← c.in-Ok.ensures)
 
 pub returns-in-Err : goal.returns-in-Err
 unfolding judge
-returns-in-Err c = rw (← c.in-Some.ensures, ← c.in-Err.ensures, add-one)
+returns-in-Err c = rw (← c.find.ensures, c.in_ok-meter.ensures.ok_part, ← c.in-Err.ensures, add-one)

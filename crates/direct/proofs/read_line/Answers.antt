@@ -4,17 +4,20 @@ use Rattle.std.proofs.Common.{refl, arith}
 use Rattle.direct.proofs.Row.{row-first, row-on, row-done}
 use Rattle.direct.proofs.read_line.Goals as goal
 
-pub loop-i-init : goal.loop-i-init
-loop-i-init c = row-first _ _ _ c.begins_code.ensures c.if-not-begins_code.false _ refl
+pub loop-interval-init : goal.loop-interval-init
+loop-interval-init c = row-first _ _ _ c.begins_code.ensures c.if-not-begins_code.false _ refl
 
-pub read_triple-requires : goal.read_triple-requires
-read_triple-requires c = omega (arith, c.loop-i.invariant.near)
-
-pub loop-i-preserved : goal.loop-i-preserved
-loop-i-preserved c = row-on _ _ _ _ _ c.loop-i.invariant c.loop-i-test.true _ _ c.in_ok-interval.ensures
+pub loop-interval-preserved : goal.loop-interval-preserved
+loop-interval-preserved c = row-on _ _ _ _ _ c.loop-interval.invariant c.loop-interval-test.true _ (rw c.unwrap.ensures at c.as_array.ensures.cases).same _ _ c.in_ok-read.ensures
 
 pub row_end-requires : goal.row_end-requires
-row_end-requires c = omega (arith, c.loop-i.invariant.near)
+row_end-requires c = omega (arith, c.loop-interval.invariant.near)
 
 pub returns : goal.returns
-returns c = row-done _ _ _ _ _ c.loop-i.invariant c.requires (omega arith) _ c.in_ok-size.ensures
+returns c = row-done _ _ _ _ _ c.loop-interval.invariant c.told-t (omega arith) _ c.in_ok-size.ensures
+
+pub overflow_add-at : goal.overflow_add-at
+overflow_add-at c = omega (arith, c.loop-interval.invariant.near)
+
+pub slice_bounds-as_array-end : goal.slice_bounds-as_array-end
+slice_bounds-as_array-end c = omega (arith, c.told-t, c.loop-interval.invariant.near)

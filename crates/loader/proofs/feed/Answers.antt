@@ -1,6 +1,6 @@
 -- `loader::feed` meets its contract.
 -- Assumes nothing.
-use mathlib.Core.Path.{refl}
+use mathlib.Core.Path.{refl, ◌∙◌}
 use native.Mathlib.Omega.{arith}
 use borrow.Author.Rules.{rules}
 use Rattle.plain.specs.Call.{feed}
@@ -15,19 +15,20 @@ pub overflow_add-state : goal.overflow_add-state
 overflow_add-state g c = omega (arith, few_bytes _ _ _ _ (feed c.args.piece.now) c.in_ok-index.ensures.number)
 
 pub loop-at-init : goal.loop-at-init
-loop-at-init g c = begins _ _ _ _ _ _ _ (rw (c.in_ok-index.ensures.index, ← c.room.ensures) c.in_ok-index.ensures.number) c.admit.ensures.kept _ refl
+loop-at-init g c = (begins _ _ _ _ _ _ _ (rw (← c.room.ensures) c.in_ok-index.ensures.number) c.admit.ensures.kept _ refl, c.in_ok-index.ensures.index)
 
 pub put-requires-clause-fits : goal.put-requires-clause-fits
-put-requires-clause-fits g c = fits _ _ _ _ _ _ _ _ _ _ _ _ c.loop-at.invariant _ (record { scan = c.next_batch-batch.new.scan; taken = c.loop-at.state.taken }) _ c.next_batch-batch.ensures
+put-requires-clause-fits g c = fits _ _ _ _ _ _ _ _ _ _ _ _ c.loop-at.invariant.0 _ (record { scan = c.next_batch-batch.new.scan; taken = c.loop-at.state.taken }) _ (rw c.loop-at.invariant.1 at c.next_batch-batch.ensures.read)
 
 pub overflow_add-count : goal.overflow_add-count
-overflow_add-count g c = omega (arith, few _ _ _ _ _ _ _ _ _ _ _ _ c.loop-at.invariant _ (record { scan = c.next_batch-batch.new.scan; taken = c.loop-at.state.taken }) _ c.next_batch-batch.ensures)
+overflow_add-count g c = omega (arith, few _ _ _ _ _ _ _ _ _ _ _ _ c.loop-at.invariant.0 _ (record { scan = c.next_batch-batch.new.scan; taken = c.loop-at.state.taken }) _ (rw c.loop-at.invariant.1 at c.next_batch-batch.ensures.read))
 
 pub loop-at-preserved : goal.loop-at-preserved
-loop-at-preserved g c =
-    steps _ _ _ _ _ _ _ _ _ _ _ _ c.loop-at.invariant _ _ _ c.next_batch-batch.ensures _ c.put.ensures.entered c.put.ensures.behind refl (search rules)
+loop-at-preserved g c = (
+  steps _ _ _ _ _ _ _ _ _ _ _ _ c.loop-at.invariant.0 _ _ _ (rw c.loop-at.invariant.1 at c.next_batch-batch.ensures.read) _ c.put.ensures.entered c.put.ensures.behind refl (search rules),
+  c.next_batch-batch.ensures.index ∙ c.loop-at.invariant.1,
+)
 
 pub returns : goal.returns
 returns g c =
-    rw (← c.in_ok-index.ensures.index)
-    (stops _ _ _ _ _ _ _ _ _ _ _ _ c.loop-at.invariant (omega (arith, c.loop-at-test.false)) (search rules))
+    stops _ _ _ _ _ _ _ _ _ _ _ _ c.loop-at.invariant.0 (omega (arith, c.loop-at-test.false)) (search rules)

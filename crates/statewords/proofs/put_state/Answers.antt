@@ -7,23 +7,28 @@ use Rattle.statewords.proofs.put_state.Goals as goal
 
 pub returns : goal.returns
 returns c =
-    put_all c.args.state.now _ _ _ _ _ _ c.args.given.now.scan.kept c.number_words-numbers.result c.unit_words-unit.result
-    c.args.given.now.scan.parts.id c.args.given.now.scan.parts.sender c.args.given.now.scan.parts.words c.requires
-    c.put_bytes.ensures.put c.put_words.ensures c.put_words-2.ensures c.put_bytes-2.ensures.put c.put_bytes-3.ensures.put c.put_words-3.ensures
+    put_all c.args.state.now c.put_bytes.new.to c.copy_from_slice.new.self c.copy_from_slice-2.new.self c.put_bytes-2.new.to c.put_bytes-3.new.to
+    c.copy_from_slice-3.new.self (search rules)
     (record {
-      kept_sized = search rules;
-      numbers_sized = search rules;
-      unit_sized = search rules;
-      id_sized = search rules;
-      sender_sized = search rules;
-      words_sized = search rules;
+      kept_sized = rw c.put_bytes.ensures.put (search rules);
+      numbers_sized = rw c.copy_from_slice.ensures.after (search rules);
+      unit_sized = rw c.copy_from_slice-2.ensures.after (search rules);
+      id_sized = rw c.put_bytes-2.ensures.put (search rules);
+      sender_sized = rw c.put_bytes-3.ensures.put (search rules);
+      words_sized = rw c.copy_from_slice-3.ensures.after (search rules);
     })
     ∙ rw (
+      c.put_bytes.ensures.put,
       c.put_bytes.ensures.bytes,
+      c.copy_from_slice.ensures.after,
       c.number_words-numbers.ensures.0,
       c.number_words-numbers.ensures.1,
       c.number_words-numbers.ensures.2,
+      c.copy_from_slice-2.ensures.after,
       c.unit_words-unit.ensures,
+      c.put_bytes-2.ensures.put,
       c.put_bytes-2.ensures.bytes,
+      c.put_bytes-3.ensures.put,
       c.put_bytes-3.ensures.bytes,
+      c.copy_from_slice-3.ensures.after,
     )

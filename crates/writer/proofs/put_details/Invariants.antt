@@ -1,8 +1,8 @@
 -- What the loop of `writer::put_details` keeps.
+use Rattle.std.proofs.Common.{◌≡◌, ◌++◌}
 use Rattle.rowtext.specs.Text.{rows}
-use Rattle.digits.specs.Put.{Put}
 use Rattle.writer.specs.Record.{detail_lines}
 use Rattle.writer.proofs.put_details.Given as goal
 
 abbrev pub invariant-loop-k : goal.invariant-loop-k
-invariant-loop-k l = Put l.initial.out l.at (rows (detail_lines l.k l.words)) l.out l.end
+invariant-loop-k g l = l.text ≡ l.fn.text ++ rows (detail_lines l.k l.words)

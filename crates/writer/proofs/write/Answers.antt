@@ -1,38 +1,46 @@
 -- `writer::write` meets its contract.
 -- Assumes nothing.
 use mathlib.Core.Path.{sym, ◌∙◌}
-use Rattle.report.proofs.Passing.{answers-exit, test-passed}
+use Rattle.report.proofs.Passing.{answers-exit, none-given, test-passed}
 use Rattle.registry.proofs.Laws.{index-none, index-some}
 use Rattle.cells.specs.Sound.{sound_cell}
 use Rattle.writer.specs.Write.{writes, written_record, fitting}
 use Rattle.writer.proofs.Answers.{writable}
 use Rattle.writer.proofs.write.Goals as goal
 
-pub returns-in_default-clause-answer : goal.returns-in_default-clause-answer
+pub returns-in_err-index-clause-answer : goal.returns-in_err-index-clause-answer
 unfolding writes written_record fitting sound_cell
-returns-in_default-clause-answer c = rw (index-none _ c.in_default.ensures)
+returns-in_err-index-clause-answer c =
+    rw (
+      answers-exit _ _ c.from_residual.ensures.1,
+      none-given _ _ _ c.in_err-index.ensures.value c.in_err-index.ensures.ok_part,
+      index-none c.args.registry.now (sym c.in_err-index.ensures.ok_part ∙ c.of.ensures),
+    )
 
-pub returns-in_default-clause-bytes : goal.returns-in_default-clause-bytes
+pub returns-in_err-index-clause-bytes : goal.returns-in_err-index-clause-bytes
 unfolding writes written_record fitting sound_cell
-returns-in_default-clause-bytes c = rw (index-none _ c.in_default.ensures)
+returns-in_err-index-clause-bytes c = rw (index-none c.args.registry.now (sym c.in_err-index.ensures.ok_part ∙ c.of.ensures))
 
 pub returns-in_err-words-clause-answer : goal.returns-in_err-words-clause-answer
 unfolding writes written_record fitting
-returns-in_err-words-clause-answer c = answers-exit _ _ c.from_residual.ensures.1 ∙ rw (← (index-some _ _ c.in-Some.ensures).1, ← c.in_err-words.ensures)
+returns-in_err-words-clause-answer c =
+    answers-exit _ _ c.from_residual-in_err-words.ensures.1
+    ∙ rw (← (index-some c.args.registry.now _ (sym c.in_ok-index.ensures.ok_part ∙ c.of.ensures)).1, ← c.in_err-words.ensures)
 
 pub returns-in_err-words-clause-bytes : goal.returns-in_err-words-clause-bytes
 unfolding writes written_record fitting
-returns-in_err-words-clause-bytes c = rw (← (index-some _ _ c.in-Some.ensures).1, ← c.in_err-words.ensures)
+returns-in_err-words-clause-bytes c = rw (← (index-some c.args.registry.now _ (sym c.in_ok-index.ensures.ok_part ∙ c.of.ensures)).1, ← c.in_err-words.ensures)
 
 pub returns-in_err-require-clause-answer : goal.returns-in_err-require-clause-answer
 unfolding writes written_record fitting
 returns-in_err-require-clause-answer c =
     answers-exit _ _ c.from_residual-in_err-require.ensures.1
-    ∙ rw (← (index-some _ _ c.in-Some.ensures).1, ← c.in_ok-words.ensures, ← c.is_descriptor.ensures, ← c.in_err-require.ensures)
+    ∙ rw (← (index-some c.args.registry.now _ (sym c.in_ok-index.ensures.ok_part ∙ c.of.ensures)).1, ← c.in_ok-words.ensures, ← c.is_descriptor.ensures, ← c.in_err-require.ensures)
 
 pub returns-in_err-require-clause-bytes : goal.returns-in_err-require-clause-bytes
 unfolding writes written_record fitting
-returns-in_err-require-clause-bytes c = rw (← (index-some _ _ c.in-Some.ensures).1, ← c.in_ok-words.ensures, ← c.is_descriptor.ensures, ← c.in_err-require.ensures)
+returns-in_err-require-clause-bytes c =
+    rw (← (index-some c.args.registry.now _ (sym c.in_ok-index.ensures.ok_part ∙ c.of.ensures)).1, ← c.in_ok-words.ensures, ← c.is_descriptor.ensures, ← c.in_err-require.ensures)
 
 pub write_cell-requires : goal.write_cell-requires
 write_cell-requires c = writable _ _ _ _ _ _ _ c.in_ok-words.ensures (sym c.is_descriptor.ensures ∙ test-passed _ _ c.in_ok-require.ensures)
@@ -40,9 +48,11 @@ write_cell-requires c = writable _ _ _ _ _ _ _ c.in_ok-words.ensures (sym c.is_d
 pub returns-clause-answer : goal.returns-clause-answer
 unfolding writes written_record
 returns-clause-answer c =
-    rw (← (index-some _ _ c.in-Some.ensures).1, ← c.in_ok-words.ensures, ← c.is_descriptor.ensures, ← c.in_ok-require.ensures) c.write_cell.ensures.answer
+    rw (← (index-some c.args.registry.now _ (sym c.in_ok-index.ensures.ok_part ∙ c.of.ensures)).1, ← c.in_ok-words.ensures, ← c.is_descriptor.ensures, ← c.in_ok-require.ensures)
+    c.write_cell.ensures.answer
 
 pub returns-clause-bytes : goal.returns-clause-bytes
 unfolding writes written_record
 returns-clause-bytes c =
-    rw (← (index-some _ _ c.in-Some.ensures).1, ← c.in_ok-words.ensures, ← c.is_descriptor.ensures, ← c.in_ok-require.ensures) c.write_cell.ensures.bytes
+    rw (← (index-some c.args.registry.now _ (sym c.in_ok-index.ensures.ok_part ∙ c.of.ensures)).1, ← c.in_ok-words.ensures, ← c.is_descriptor.ensures, ← c.in_ok-require.ensures)
+    c.write_cell.ensures.bytes

@@ -1,10 +1,10 @@
 -- `writer::write_cell` meets its contract.
 -- Assumes nothing.
-use mathlib.Core.Path.{sym, ap, ◌∙◌}
+use mathlib.Core.Path.{ap}
 use native.Mathlib.Omega.{arith}
-use lib.Seq.{length-take-le}
 use Rattle.registry.proofs.Laws.{sound-window}
-use Rattle.writer.proofs.Answers.{put_front, cell-text, cell-most}
+use Rattle.writer.proofs.Records.{record-most}
+use Rattle.writer.proofs.Answers.{behind_none, cell-text, meter-short}
 use Rattle.writer.proofs.write_cell.Goals as goal
 
 pub overflow_add-window : goal.overflow_add-window
@@ -12,19 +12,22 @@ overflow_add-window c =
     let window = sound-window _ c.window.ensures.1 in
     omega (arith, c.requires.day, window.few, window.ends, ap (λ w. w.first) c.window.ensures.0, ap (λ w. w.days) c.window.ensures.0)
 
-pub put_record-n-requires-clause-room : goal.put_record-n-requires-clause-room
-put_record-n-requires-clause-room c =
-    rw (cell-text c.args.at.channel c.requires c.window.ensures c.unpadded-id.ensures c.id_of.ensures.0 c.unpadded-owner.ensures c.owner_of.ensures.0 c.date_of-date.ensures)
-    (omega (arith, cell-most c.args.at.channel c.requires))
-
-pub slice_bounds-bytes-end : goal.slice_bounds-bytes-end
-slice_bounds-bytes-end c = (put_front _ _ _ _ c.put_record-n.ensures).1
-
-pub slice_bounds-put_out-end : goal.slice_bounds-put_out-end
-slice_bounds-put_out-end c = sym (length-take-le _ _ (put_front _ _ _ _ c.put_record-n.ensures).1)
+pub put_record-requires : goal.put_record-requires
+put_record-requires c =
+    let short = meter-short c.requires c.unpadded-id.ensures c.id_of.ensures c.unpadded-owner.ensures c.owner_of.ensures in (
+      omega arith,
+      (
+        (c.requires.few, c.requires.values),
+        behind_none _ c.new-text.ensures (record-most _ _ _ _ _ _ (omega (arith, short.0, short.1)) short.1 (omega (arith, short.1, c.requires.short)) c.requires.few),
+      ),
+    )
 
 pub returns-clause-answer : goal.returns-clause-answer
-returns-clause-answer c = rw (← ((put_front _ _ _ _ c.put_record-n.ensures).0 ∙ cell-text c.args.at.channel c.requires c.window.ensures c.unpadded-id.ensures c.id_of.ensures.0 c.unpadded-owner.ensures c.owner_of.ensures.0 c.date_of-date.ensures)) c.put_out.ensures.answer
+returns-clause-answer c =
+    rw (c.bytes.ensures, c.put_record.ensures, c.new-text.ensures, cell-text c.args.at.channel c.requires c.window.ensures c.unpadded-id.ensures c.id_of.ensures c.unpadded-owner.ensures c.owner_of.ensures c.date_of-date.ensures)
+    at c.put_out.ensures.answer
 
 pub returns-clause-bytes : goal.returns-clause-bytes
-returns-clause-bytes c = rw (← ((put_front _ _ _ _ c.put_record-n.ensures).0 ∙ cell-text c.args.at.channel c.requires c.window.ensures c.unpadded-id.ensures c.id_of.ensures.0 c.unpadded-owner.ensures c.owner_of.ensures.0 c.date_of-date.ensures)) c.put_out.ensures.bytes
+returns-clause-bytes c =
+    rw (c.bytes.ensures, c.put_record.ensures, c.new-text.ensures, cell-text c.args.at.channel c.requires c.window.ensures c.unpadded-id.ensures c.id_of.ensures c.unpadded-owner.ensures c.owner_of.ensures c.date_of-date.ensures)
+    at c.put_out.ensures.bytes

@@ -1,49 +1,44 @@
 -- `details::value::read_value` meets its contract.
 -- Assumes nothing.
+use mathlib.Core.Path.{refl, ◌∙◌}
 use native.Mathlib.Omega.{arith}
 use borrow.Author.Rules.{rules}
-use Rattle.text.proofs.Decimal.{run_stops}
-use Rattle.details.proofs.Worth.{value_none, value_minus, no_digits, whole-digits, value-long, value-whole, value_odd, value_unclean, value_fine, value_bare, value-wide, part-digits, value-parts}
+use Rattle.text.specs.Byte.{every}
+use Rattle.text.proofs.Left.{left-whole}
+use Rattle.report.proofs.Passing.{says-exit}
+use Rattle.details.proofs.Worth.{value-signed, whole-digits, value-whole, value-pointed, value-odd}
 use Rattle.details.proofs.value.read_value.Goals as goal
 
-pub returns-then-f-eq0 : goal.returns-then-f-eq0
-returns-then-f-eq0 c = search (value_none, rules)
+pub returns-in_err-require : goal.returns-in_err-require
+returns-in_err-require c = says-exit _ _ c.from_residual.ensures.1 ∙ rw (value-signed _ _ c.begins.ensures, ← c.in_err-require.ensures)
 
-pub returns-then-f-eq45 : goal.returns-then-f-eq45
-returns-then-f-eq45 c = search (value_minus, rules)
+pub returns-in_err-require-in-empty : goal.returns-in_err-require-in-empty
+returns-in_err-require-in-empty c = says-exit _ _ c.from_residual-in_err-require-in-empty.ensures.1 ∙ rw (value-signed _ _ c.begins.ensures, ← c.in_ok-require.ensures, value-whole _ _ _ _ c.digits-w.ensures c.front-whole.ensures c.behind.ensures c.in-empty.len_below, ← c.in_err-require-in-empty.ensures)
 
-pub returns-then-w-gt-WHOLE_DIGITS : goal.returns-then-w-gt-WHOLE_DIGITS
-returns-then-w-gt-WHOLE_DIGITS c = search (value-long, rules)
+pub watt_hours-requires-clause-digits : goal.watt_hours-requires-clause-digits
+watt_hours-requires-clause-digits c = whole-digits _ _ c.behind.result.now _ c.digits-w.ensures c.front-whole.ensures _ c.in_ok-require-in-empty.ensures
 
-pub watt_hours-requires : goal.watt_hours-requires
-watt_hours-requires c = record { digits = search (whole-digits, rules); digits_2 = search (no_digits, rules) }
+pub watt_hours-requires-clause-digits_2 : goal.watt_hours-requires-clause-digits_2
+unfolding every
+watt_hours-requires-clause-digits_2 c = record { short = omega arith; clean = refl }
 
-pub returns-then-w-f : goal.returns-then-w-f
-returns-then-w-f c = search (value-whole, rules)
+pub returns-in_ok-require-in-empty : goal.returns-in_ok-require-in-empty
+returns-in_ok-require-in-empty c = rw (value-signed _ _ c.begins.ensures, ← c.in_ok-require.ensures, value-whole _ _ _ _ c.digits-w.ensures c.front-whole.ensures c.behind.ensures c.in-empty.len_below, ← c.in_ok-require-in-empty.ensures, c.watt_hours.ensures)
 
-pub bounds-f-w : goal.bounds-f-w
-bounds-f-w c = search run_stops
+pub returns-in_err-require-in-46 : goal.returns-in_err-require-in-46
+returns-in_err-require-in-46 c = says-exit _ _ c.from_residual-in_err-require-in-46.ensures.1 ∙ rw (value-signed _ _ c.begins.ensures, ← c.in_ok-require.ensures, value-pointed _ _ _ _ c.digits-w.ensures c.front-whole.ensures c.behind.ensures c.in-46.len_at_least (search rules) _ _ c.all_digits.ensures (left-whole _ 1), ← c.in_err-require-in-46.ensures)
 
-pub returns-then-f-w-ne46 : goal.returns-then-f-w-ne46
-returns-then-f-w-ne46 c = search (value_odd, rules)
+pub returns-in_err-require-in-46-2 : goal.returns-in_err-require-in-46-2
+returns-in_err-require-in-46-2 c = says-exit _ _ c.from_residual-in_err-require-in-46-2.ensures.1 ∙ rw (value-signed _ _ c.begins.ensures, ← c.in_ok-require.ensures, value-pointed _ _ _ _ c.digits-w.ensures c.front-whole.ensures c.behind.ensures c.in-46.len_at_least (search rules) _ _ c.all_digits.ensures (left-whole _ 1), ← c.in_ok-require-in-46.ensures, ← c.in_err-require-in-46-2.ensures)
 
-pub overflow_add-w : goal.overflow_add-w
-overflow_add-w c = omega (arith, run_stops _ _ c.digits-w.ensures c.if-w-f.false)
+pub returns-in_err-require-in-46-3 : goal.returns-in_err-require-in-46-3
+returns-in_err-require-in-46-3 c = says-exit _ _ c.from_residual-in_err-require-in-46-3.ensures.1 ∙ rw (value-signed _ _ c.begins.ensures, ← c.in_ok-require.ensures, value-pointed _ _ _ _ c.digits-w.ensures c.front-whole.ensures c.behind.ensures c.in-46.len_at_least (search rules) _ _ c.all_digits.ensures (left-whole _ 1), ← c.in_ok-require-in-46.ensures, ← c.in_ok-require-in-46-2.ensures, ← c.is_empty.ensures, ← c.in_err-require-in-46-3.ensures)
 
-pub returns-then-not-all_digits : goal.returns-then-not-all_digits
-returns-then-not-all_digits c = search (value_unclean, rules)
+pub watt_hours-requires-in-46-clause-digits : goal.watt_hours-requires-in-46-clause-digits
+watt_hours-requires-in-46-clause-digits c = whole-digits _ _ c.behind.result.now _ c.digits-w.ensures c.front-whole.ensures _ c.in_ok-require-in-46-3.ensures
 
-pub returns-then-part-gt-PART_DIGITS : goal.returns-then-part-gt-PART_DIGITS
-returns-then-part-gt-PART_DIGITS c = search (value_fine, rules)
+pub returns-in_ok-require-in-46-3 : goal.returns-in_ok-require-in-46-3
+returns-in_ok-require-in-46-3 c = rw (value-signed _ _ c.begins.ensures, ← c.in_ok-require.ensures, value-pointed _ _ _ _ c.digits-w.ensures c.front-whole.ensures c.behind.ensures c.in-46.len_at_least (search rules) _ _ c.all_digits.ensures (left-whole _ 1), ← c.in_ok-require-in-46.ensures, ← c.in_ok-require-in-46-2.ensures, ← c.is_empty.ensures, ← c.in_ok-require-in-46-3.ensures, c.watt_hours-in-46.ensures)
 
-pub returns-then-part-eq0 : goal.returns-then-part-eq0
-returns-then-part-eq0 c = search (value_bare, rules)
-
-pub returns-then-w-gt-WHOLE_DIGITS-2 : goal.returns-then-w-gt-WHOLE_DIGITS-2
-returns-then-w-gt-WHOLE_DIGITS-2 c = search (value-wide, rules)
-
-pub watt_hours-requires-2 : goal.watt_hours-requires-2
-watt_hours-requires-2 c = record { digits = search (whole-digits, rules); digits_2 = part-digits _ _ c.all_digits.ensures c.if-not-all_digits.false c.if-part-gt-PART_DIGITS.false }
-
-pub returns : goal.returns
-returns c = value-parts _ _ _ c.digits-w.ensures c.front-whole.ensures c.if-f-eq45.false c.if-w-f.false c.if-f-w-ne46.false _ c.behind-part.ensures _ c.all_digits.ensures c.if-not-all_digits.false _ c.if-part-gt-PART_DIGITS.false c.if-part-eq0.false c.if-w-gt-WHOLE_DIGITS-2.false c.watt_hours-2.ensures
+pub returns-in_default : goal.returns-in_default
+returns-in_default c = rw (value-signed _ _ c.begins.ensures, ← c.in_ok-require.ensures, value-odd _ _ _ _ c.digits-w.ensures c.front-whole.ensures c.behind.ensures c.in_default.len_at_least (search rules))

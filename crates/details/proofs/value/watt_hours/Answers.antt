@@ -13,26 +13,26 @@ overflow_mul-k c = omega (arith, number-below whole_digits _ _ c.requires.digits
 pub overflow_add-result : goal.overflow_add-result
 overflow_add-result c = omega (arith, number-below whole_digits _ _ c.requires.digits c.number_of-k.ensures, number-below part_digits _ _ c.requires.digits_2 c.number_of-n.ensures)
 
-pub returns-then-part-eq3 : goal.returns-then-part-eq3
-returns-then-part-eq3 c = search (hours_three, rules)
+pub returns-in-3 : goal.returns-in-3
+returns-in-3 c = search (hours_three, rules)
 
 pub overflow_mul-result : goal.overflow_mul-result
 overflow_mul-result c = omega (arith, number-below part_digits _ _ c.requires.digits_2 c.number_of-n.ensures)
 
-pub overflow_add-result-then-part-eq2 : goal.overflow_add-result-then-part-eq2
-overflow_add-result-then-part-eq2 c = omega (arith, number-below whole_digits _ _ c.requires.digits c.number_of-k.ensures, number-below part_digits _ _ c.requires.digits_2 c.number_of-n.ensures)
+pub overflow_add-result-in-2 : goal.overflow_add-result-in-2
+overflow_add-result-in-2 c = omega (arith, number-below whole_digits _ _ c.requires.digits c.number_of-k.ensures, number-below part_digits _ _ c.requires.digits_2 c.number_of-n.ensures)
 
-pub returns-then-part-eq2 : goal.returns-then-part-eq2
-returns-then-part-eq2 c = search (hours_two, rules)
+pub returns-in-2 : goal.returns-in-2
+returns-in-2 c = search (hours_two, rules)
 
-pub overflow_mul-result-then-part-eq1 : goal.overflow_mul-result-then-part-eq1
-overflow_mul-result-then-part-eq1 c = omega (arith, number-below part_digits _ _ c.requires.digits_2 c.number_of-n.ensures)
+pub overflow_mul-result-in-1 : goal.overflow_mul-result-in-1
+overflow_mul-result-in-1 c = omega (arith, number-below part_digits _ _ c.requires.digits_2 c.number_of-n.ensures)
 
-pub overflow_add-result-then-part-eq1 : goal.overflow_add-result-then-part-eq1
-overflow_add-result-then-part-eq1 c = omega (arith, number-below whole_digits _ _ c.requires.digits c.number_of-k.ensures, number-below part_digits _ _ c.requires.digits_2 c.number_of-n.ensures)
+pub overflow_add-result-in-1 : goal.overflow_add-result-in-1
+overflow_add-result-in-1 c = omega (arith, number-below whole_digits _ _ c.requires.digits c.number_of-k.ensures, number-below part_digits _ _ c.requires.digits_2 c.number_of-n.ensures)
 
-pub returns-then-part-eq1 : goal.returns-then-part-eq1
-returns-then-part-eq1 c = search (hours_one, rules)
+pub returns-in-1 : goal.returns-in-1
+returns-in-1 c = search (hours_one, rules)
 
-pub returns : goal.returns
-returns c = search (hours_none, rules)
+pub returns-in_default : goal.returns-in_default
+returns-in_default c = search (hours_none, rules)

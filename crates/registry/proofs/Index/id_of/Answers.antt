@@ -2,7 +2,6 @@
 -- Assumes nothing.
 use native.Mathlib.Omega.{arith}
 use Rattle.registry.proofs.Laws.{meters-most}
-use Rattle.registry.proofs.Halves.{id-within, id-here}
 use Rattle.registry.proofs.Index.id_of.Goals as goal
 
 pub offset_bounds-self-inside-meter : goal.offset_bounds-self-inside-meter

@@ -1,15 +1,11 @@
 -- `runs::skip::is_skipped` meets its contract.
 -- Assumes nothing.
+use mathlib.Core.Path.{sym}
+use Rattle.runs.proofs.Skipping.{skips_others}
 use Rattle.runs.proofs.skip.is_skipped.Goals as goal
-
-pub returns-in-Empty : goal.returns-in-Empty
-returns-in-Empty c = rw (← c.without_cr.ensures, ← c.kind_of.ensures, c.in-Empty.is)
 
 pub returns-in-Opener : goal.returns-in-Opener
 returns-in-Opener c = rw (← c.without_cr.ensures, ← c.kind_of.ensures, c.in-Opener.is)
 
-pub returns-in-Detail : goal.returns-in-Detail
-returns-in-Detail c = rw (← c.without_cr.ensures, ← c.kind_of.ensures, c.in-Detail.is)
-
-pub returns-in-Other : goal.returns-in-Other
-returns-in-Other c = rw (← c.without_cr.ensures, ← c.kind_of.ensures, c.in-Other.is)
+pub returns-in_default : goal.returns-in_default
+returns-in_default c = rw (← c.without_cr.ensures, ← c.kind_of.ensures) (sym (skips_others _ c.in_default.not-Opener))

@@ -1,6 +1,8 @@
 -- `usual::one::usual_one` meets its contract.
 -- Assumes nothing.
+use mathlib.Core.Path.{◌∙◌}
 use Rattle.text.specs.Number.{digits_of}
+use Rattle.report.proofs.Passing.{value-taken}
 use Rattle.usual.proofs.UsualOne.{stop_text, stop_right, usual_digits, one_usual}
 use Rattle.usual.proofs.one.usual_one.Goals as goal
 
@@ -11,4 +13,4 @@ number_of-day-requires c =
 pub returns : goal.returns
 unfolding digits_of
 returns c cr =
-    one_usual _ c.if-n-lt-USUAL_LEAST.false _ _ _ _ _ _ c.if-not-shaped.false c.all_digits.ensures stop_text stop_right c.if-n-gt-USUAL_MOST.false c.begins.ensures c.all_alnum.ensures c.same.ensures c.same-2.ensures c.same-3.ensures _ c.number_of-day.ensures _ c.is_date.ensures c.if-not-is_date.false _ c.in-Ok.ensures cr
+    one_usual _ c.if-n-lt-USUAL_LEAST.false _ _ _ _ _ _ c.if-not-shaped.false c.all_digits.ensures stop_text stop_right c.if-n-gt-USUAL_MOST.false c.begins.ensures c.all_alnum.ensures c.same.ensures c.same-2.ensures c.same-3.ensures _ c.number_of-day.ensures _ c.is_date.ensures c.if-not-is_date.false _ (value-taken _ _ c.in_ok-channel.ensures.value ∙ c.read_channel.ensures) cr
