@@ -1,6 +1,6 @@
 -- The end of a file: its last line, and the unit that is open.
 -- Assumes nothing.
-use mathlib.Core.Path.{◌≡◌, refl, ◌∙◌}
+use mathlib.Core.Path.{◌≡◌, refl}
 use mathlib.Core.List.{List, [], ◌∷◌, ◌++◌}
 use mathlib.Core.Bool.{false}
 use Prim.Native.Nat.{ℕ, suc, ◌+◌, ◌≤◌}
@@ -9,7 +9,6 @@ use native.Mathlib.Omega.{arith}
 use lib.ListN.{length, take}
 use lib.Seq.{length-take-le}
 use Rattle.std.specs.Prelude.{Option}
-use Rattle.report.specs.Words.{first_entries}
 use Rattle.text.specs.Byte.{Bytes}
 use Rattle.lines.specs.Line.{last_line, kind_of, kept_limit}
 use Rattle.lines.specs.Answer.{line_with}
@@ -23,7 +22,7 @@ use Rattle.records.specs.declared.Parts.{Parts}
 use Rattle.units.specs.declared.LineRead.{LineRead}
 use Rattle.units.specs.Answer.{unit_of, told, told_by, Tells, Does}
 use Rattle.pieces.specs.declared.Scan.{Scan as KeptScan}
-use Rattle.pieces.specs.Ran.{scan_of, Puts}
+use Rattle.pieces.specs.Ran.{scan_of}
 use Rattle.batches.specs.Batch.{lines_in}
 
 -- what some events tell, and then others behind them, is what all of them tell
@@ -41,13 +40,6 @@ unfolding end_at last_line step_line step_kind kind_of
 end_line R [] n u = refl
 end_line R (b ∷ k) n u = refl
 
--- three verdicts put, one behind the other
-pub three-put : (first second last : Option Entry) (out₀ out₁ out₂ out₃ : Words) (n₁ n₂ n₃ : ℕ)
-    → Puts 0 out₀ first n₁ out₁ → Puts n₁ out₁ second n₂ out₂ → Puts n₂ out₂ last n₃ out₃
-    → first_entries n₃ out₃ ≡ (told first ++ told second) ++ told last
-unfolding first_entries
-three-put first second last out₀ out₁ out₂ out₃ n₁ n₂ n₃ a b c = c.0 ∙ rw (b.0, a.0)
-
 module _ (reg : Bytes) (s : KeptScan) (long : length s.kept ≡ kept_limit) (few : s.held ≤ kept_limit) where
   abbrev R : Rules
   R = rules_of reg
@@ -55,14 +47,13 @@ module _ (reg : Bytes) (s : KeptScan) (long : length s.kept ≡ kept_limit) (few
   abbrev u : OpenUnit
   u = unit_of s.unit s.parts
 
-  pub file-ends : (t t₁ t₂ : Words) (r : LineRead) (parts : Parts) (n : ℕ) (last : Option Entry) (count : ℕ) (words : Words)
+  pub file-ends : (t t₁ t₂ : Words) (r : LineRead) (parts : Parts) (n : ℕ) (last : Option Entry)
       → Does R (step_line R (s.lines + 1) (line_with (take s.held s.kept) false) u) (unit_of r.unit parts) (told_by r) t t₁
       → t₂ ≡ load_all R t₁ (loads_of (close (suc n) (unit_of r.unit parts))) → n ≡ lines_in s.lines s.held
       → told last ≡ entries_of (close (n + 1) (unit_of r.unit parts))
-      → first_entries count words ≡ told_by r ++ told last
-      → Tells R (end_events R (scan_of s)) (first_entries count words) t t₂
+      → (batch : List Entry) → batch ≡ told_by r ++ told last → Tells R (end_events R (scan_of s)) batch t t₂
   unfolding end_events
-  file-ends t t₁ t₂ r parts n last count words did loads lines closes e =
+  file-ends t t₁ t₂ r parts n last did loads lines closes batch e =
       let all : length (take s.held s.kept) ≡ s.held = length-take-le s.held s.kept (omega (arith, few, long)) in
       let step : Does R (step_line R (suc s.lines) (line_with (take s.held s.kept) false) u) (unit_of r.unit parts) (told_by r) t t₁ =
       rw (← add-one s.lines) did in

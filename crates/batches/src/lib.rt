@@ -1,7 +1,7 @@
 // The batches that a call works in: some lines of the piece are read, or the file ends, and the entries of their verdicts are held as words.
 //
-//     let batch = next_batch(&mut state.scan, piece, at, &mut index, table);     // the lines from place `at` on, as many as a batch has room for
-//     // batch.at is the place behind them; the first batch.count entries of batch.words belong behind those of the batches before
+//     let (next, batch) = next_batch(&mut state.scan, piece, at, &mut index, table);     // the lines from place `at` on, as many as a batch has room for
+//     // `next` is the place behind them; the batch's entries belong behind those of the batches before
 //
 // A finish is one batch, `end_file`. What each leaves is specs/Batch.antt.
 //
@@ -16,39 +16,28 @@ ghost use Rattle.plain.specs.Call.{byte_limit};
 
 use lines::line::Line;
 use pieces::Scan;
-use pieces::run::{BATCH_WORDS, put, read_lines};
+use pieces::batch::Batch;
+use pieces::run::read_lines;
 use registry::Index;
 use units::{closing, load_waiting, read_line};
 
-// The place behind the lines that were read, and their entries as words: so many are there.
-#[derive(Clone, Copy)]
-pub struct Batch {
-    pub at: usize,
-    pub count: usize,
-    pub words: [u32; BATCH_WORDS],
-}
-
-// The lines from a place of the piece on, as many as a batch has room for.
+// The lines from a place of the piece on, as many as a batch has room for: the place behind them, and their entries.
 pub fn next_batch(
     scan: &mut Scan,
     piece: &[u8],
     at: usize,
     index: &mut Index<'_>,
     table: &mut [u32],
-) -> Batch
+) -> (usize, Batch)
     requires room { HasRoom index.old table.old }
     requires holds { Holds scan.old (length piece.now - at) }
     requires left { at < length piece.now }
     ensures index { index.new ≡ index.old }
-    ensures read { Next index.old (scan_of scan.old) piece.now at result scan.new table.old table.new }
+    ensures read { Next index.old (scan_of scan.old) piece.now at result.0 result.1 scan.new table.old table.new }
 {
-    let mut words = [0; BATCH_WORDS];
-    let run = read_lines(scan, piece, at, index, table, &mut words);
-    Batch {
-        at: run.at,
-        count: run.count,
-        words,
-    }
+    let mut batch = Batch::new();
+    let next = read_lines(scan, piece, at, index, table, &mut batch);
+    (next, batch)
 }
 
 // How many lines a file has: bytes that are held are one more.
@@ -83,13 +72,9 @@ pub fn end_file(scan: &mut Scan, index: &Index<'_>, table: &mut [u32]) -> Batch
     );
     load_waiting(read.unit, index, &scan.parts, table);
     let last = closing(read.unit, lines_in(scan.lines, scan.held) + 1);
-    let mut words = [0; BATCH_WORDS];
-    let mut count = put(&mut words, 0, read.first);
-    count = put(&mut words, count, read.second);
-    count = put(&mut words, count, last);
-    Batch {
-        at: 0,
-        count,
-        words,
-    }
+    let mut batch = Batch::new();
+    batch.put(read.first);
+    batch.put(read.second);
+    batch.put(last);
+    batch
 }

@@ -39,10 +39,15 @@ pub first-zero : first_day 0 ≡ 0
 unfolding first_day
 first-zero = refl
 
--- The walk passes the table, so the entry of each month is its first day.
+-- Where the walk passes a table, the entry of each month is its first day.
+pub entry-right : (table : List ℕ) → follows 0 0 table ≡ true → (k : ℕ) → k < months → get_or table k 0 ≡ first_day k
+unfolding first_day
+entry-right table t k h = walked table 0 t k (omega arith) ∙ ap first_day (zero-add k)
+
+-- It passes the table.
 pub entry_right : (k : ℕ) → k < months → get_or FIRST_DAYS k 0 ≡ first_day k
 unfolding first_day month_length
-entry_right k h = walked FIRST_DAYS 0 refl k (omega arith) ∙ ap first_day (zero-add k)
+entry_right k h = entry-right FIRST_DAYS refl k h
 
 -- December 2099, and the day after it
 pub last_month : first_day 1115 ≡ 33937

@@ -98,7 +98,7 @@ fn month_of(day: u32) -> usize
     FIRST_DAYS.partition_point(|first| u32::from(*first) <= day) - 1
 }
 
-// The date YYYYMMDD of the day with a number; 0 past 20991231.
+// The date YYYYMMDD of the day with a number; 0 past 20991231. No Option, here and in the next two: each caller has a real day and would only unwrap it.
 #[tactic(auto, unfolding(crate::specs::Answer::date_is), using(crate::proofs::Laws::date_found))]
 pub fn date_of(day: u32) -> u32
     ensures { result ≡ date_is day }

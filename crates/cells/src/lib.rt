@@ -23,7 +23,7 @@ use report::require;
 
 pub const CHANNELS: usize = 2;
 
-// A cell's meter, channel and window day, each from 0.
+// A cell's meter, channel and window day, each from 0. The channel is a number, since C gives one, and 6 for what is none comes behind 2 and 3.
 #[derive(Clone, Copy, Debug, PartialEq, Eq)]
 pub struct Address {
     pub meter: usize,

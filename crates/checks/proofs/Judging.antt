@@ -1,19 +1,23 @@
 -- The window day of a date, by what the code computes.
 -- Assumes nothing.
-use mathlib.Core.Path.{◌≡◌, refl}
+use mathlib.Core.Path.{◌≡◌, refl, sym, ◌∙◌}
 use mathlib.Core.Bool.{Bool, true, false, cond}
 use Prim.Native.Nat.{ℕ, ◌+◌, ◌-◌, ◌≤◌}
+use native.Mathlib.Numerals.{add-one}
 use native.Mathlib.Omega.{arith}
 use lib.Dec.{ltb}
 use borrow.Author.Tests.{le-leb, lt-leb, lt-ltb, le-ltb, ltb-true, ltb-false}
 use Rattle.calendar.specs.Date.{is_date}
 use Rattle.calendar.specs.Day.{day_number}
 use Rattle.calendar.specs.Answer.{day_is}
-use Rattle.std.specs.Prelude.{Some, None}
-use Rattle.report.specs.Outcome.{passed, refused, require, ◌>>◌}
-use Rattle.report.specs.Verdict.{outside_window}
+use Rattle.std.specs.Prelude.{Some, None, Result, Ok, Err, IsErrAnd}
+use Rattle.std.specs.Result.{MatchResult}
+use Rattle.report.specs.declared.verdict.Verdict.{Verdict}
+use Rattle.report.specs.declared.verdict.Fault.{Fault}
+use Rattle.report.specs.Outcome.{passed, refused, require, says, ◌>>◌}
+use Rattle.report.specs.Verdict.{outside_window, verdict_number}
 use Rattle.registry.specs.declared.entry.Window.{Window}
-use Rattle.checks.specs.Check.{in_window, day_in}
+use Rattle.checks.specs.Check.{in_window, day_in, Passed, Refused, of_meter}
 
 number-real : (t : Bool) (k n : ℕ) → Some n ≡ cond t (Some k) None → (t ≡ true) × (n ≡ k)
 number-real true k n e = (refl, cc)
@@ -47,3 +51,14 @@ module _ (w : Window) (date : ℕ) where
 
         same : ltb n (w.first + w.days) ≡ ltb (n - w.first) w.days
         same = by-test (ltb (n - w.first) w.days) refl
+
+-- ---- THE ANSWER FOR A KNOWN METER, of whose verdict `map_err` makes a fault
+module _ (Makes : Verdict → Fault → Type 0) (m : ℕ) (s : Result ℕ Fault) where
+  pub day_given : (r : Result ℕ Verdict) → MatchResult r (λ d. s ≡ Ok d) (λ v. IsErrAnd s (Makes v)) → (d : ℕ) → s ≡ Ok d → Passed m d ≡ of_meter m (says r)
+  day_given (Ok x) made d e = let same : ◌≡◌ {A = Result ℕ Fault} (Ok d) (Ok x) = sym e ∙ made in cc
+  day_given (Err v) made d e = absurd (rw e at made)
+
+  pub fault_given : (r : Result ℕ Verdict) → MatchResult r (λ d. s ≡ Ok d) (λ v. IsErrAnd s (Makes v)) → (f : Fault) → s ≡ Err f
+      → ((v : Verdict) → Makes v f → f ≡ record { verdict = v; meter = m + 1 }) → Refused (verdict_number f.verdict) f.meter ≡ of_meter m (says r)
+  fault_given (Ok x) made f e tells = let apart : ◌≡◌ {A = Result ℕ Fault} (Ok x) (Err f) = sym made ∙ e in absurd cc
+  fault_given (Err v) made f e tells = rw (tells v (rw e at made), add-one)

@@ -78,11 +78,10 @@ pub fn judge(
     ensures { judged_says result ≡ judged index.now id.now sender.now date }
 {
     let meter = index.find(id).ok_or(Verdict::UnknownMeter)?;
-    match meter_checks(index, meter, sender, date) {
-        Ok(day) => Ok(Cleared { meter, day }),
-        Err(verdict) => Err(Fault {
-            verdict,
-            meter: (meter + 1) as u32,
-        }),
-    }
+    let number = (meter + 1) as u32;
+    let day = meter_checks(index, meter, sender, date).map_err(|verdict| Fault {
+        verdict,
+        meter: number,
+    })?;
+    Ok(Cleared { meter, day })
 }

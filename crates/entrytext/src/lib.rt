@@ -29,7 +29,7 @@ fn put_then<const N: usize>(text: &mut Text<N>, n: u32, behind: u8)
     text.put(&[behind]);
 }
 
-// Puts an entry's line.
+// Puts an entry's line. No loop: behind the last number stands another byte.
 #[tactic(auto, using(crate::proofs::Listing::numbers), unfolding(crate::specs::Listing::line_of))]
 fn put_line<const N: usize>(text: &mut Text<N>, e: Entry)
     requires { length text.old + longest ≤ N }

@@ -1,25 +1,25 @@
 -- Row two: its forms, at each answer of their checkers, and the walk along the fields.
 -- Assumes nothing.
-use mathlib.Core.Path.{◌≡◌, ap, sym, ◌∙◌}
-use mathlib.Core.List.{List, ◌∷◌}
-use mathlib.Core.Bool.{Bool, true, false, not, ◌&&◌, ◌||◌}
-use Prim.Native.Nat.{ℕ, ◌+◌, ◌<◌, ◌≤◌}
+use mathlib.Core.Path.{◌≡◌, refl, ap, sym, ◌∙◌}
+use mathlib.Core.List.{List, [], ◌∷◌}
+use mathlib.Core.Bool.{Bool, true, false, not, ◌&&◌, and-true, and-false}
+use Prim.Native.Nat.{ℕ, ◌+◌, ◌-◌, ◌<◌, ◌≤◌}
 use native.Mathlib.Omega.{arith}
 use native.Mathlib.Numerals.{add-one}
 use native.Mathlib.Nat.{le_of_eq}
 use lib.Dec.{eqb, leb}
-use lib.ListN.{length, drop, get_or, length-drop, drop_of_length-le}
+use lib.ListN.{length, take, drop, get_or, length-drop, drop_of_length-le}
 use lib.Seq.{drop-cons, drop-drop}
-use borrow.Author.Tests.{leb-true}
-use Rattle.text.specs.Byte.{Bytes, is_digit, every, is_empty}
+use borrow.Author.Tests.{eq-eqb, ne_eqb, leb-true}
+use Rattle.text.specs.Byte.{Bytes, is_digit, every}
 use Rattle.text.specs.Field.{cut, first_field, after_field}
 use Rattle.text.specs.Number.{number, leading, behind, Digits}
 use Rattle.text.proofs.Truth.{and_left, and_right}
-use Rattle.text.proofs.Left.{left-cons, left-none}
-use Rattle.text.proofs.Decimal.{run_drop, run_stops}
-use Rattle.text.proofs.Comma.{cut-head, cut-more, cut_at}
+use Rattle.text.proofs.Left.{left-cons, left-whole}
+use Rattle.text.proofs.Decimal.{run_drop}
+use Rattle.text.proofs.Comma.{cut-head, cut-more}
 use Rattle.headers.specs.declared.two.Form.TheVariants.{Code}
-use Rattle.headers.specs.Two.{decimal_parts, is_decimal, up_to_digits, is_unit_code, is_zone_count, fits_form, row_two_forms, fit_all, has_multiplier}
+use Rattle.headers.specs.Two.{decimal_parts, is_decimal, up_to_digits, is_unit_code, is_zone_count, fits_form, row_two_forms, fit_all}
 
 -- a test of the number that n digits at most write; r says whether they are digits
 module _ (f : Bytes) (n : ℕ) (r : Bool) (er : r ≡ up_to_digits n f) where
@@ -45,22 +45,33 @@ unit-right f r m er h e = rw e (digits_yes f 4 r er (not (eqb (number f) 0)) h)
 pub zone_right : (f : Bytes) (r : Bool) (m : ℕ) → r ≡ up_to_digits 2 f → r ≡ true → m ≡ number f → leb m 47 ≡ is_zone_count f
 zone_right f r m er h e = rw e (digits_yes f 2 r er (leb (number f) 47) h)
 
--- a decimal
-module _ (f : Bytes) (w : ℕ) (run : w ≡ length (leading f)) where
+-- a decimal, by what stands behind its first digits
+module _ (f : Bytes) (w : ℕ) (run : w ≡ length (leading f)) (g : Bytes) (eg : g ≡ drop w f) where
   lead : length (leading f) ≡ w
   lead = sym run
 
-  tail : behind f ≡ drop w f
-  tail = rw run (sym (run_drop f))
+  tail : behind f ≡ g
+  tail = sym (eg ∙ rw run (run_drop f))
 
-  pub decimal-whole : w ≡ length f → (leb 1 w && leb w 15) ≡ is_decimal f
+  pub decimal-whole : length g < 1 → (leb 1 w && leb w 15) ≡ is_decimal f
   unfolding is_decimal decimal_parts
-  decimal-whole h = rw (tail, left-none f w (omega arith), lead)
+  decimal-whole h = rw (tail, empty g h, lead)
+    where
+      empty : (g : Bytes) → length g < 1 → g ≡ []
+      empty [] h = refl
+      empty (b ∷ g) h = absurd (omega arith)
 
-  pub decimal-point : (p : Bytes) (r : Bool) → (w ≡ length f → ⊥) → p ≡ drop (w + 1) f → r ≡ every is_digit p
-      → (leb 1 w && leb w 15 && eqb (get_or f w 0) 46 && r && leb 1 (length p) && leb (length p) 4) ≡ is_decimal f
+  parted : 1 ≤ length g → g ≡ get_or g 0 0 ∷ drop 1 g
+  parted h = left-cons g 0 (omega arith)
+
+  pub decimal-point : 1 ≤ length g → get_or g 0 0 ≡ 46 → (p : Bytes) (r : Bool) → r ≡ every is_digit p → p ≡ take (length g - 1) (drop 1 g)
+      → (leb 1 w && leb w 15 && r && leb 1 (length p) && leb (length p) 4) ≡ is_decimal f
   unfolding is_decimal decimal_parts
-  decimal-point p r h ep er = rw (tail, left-cons f w (run_stops f w run h), lead, er, ep)
+  decimal-point h e p r er ep = rw (tail, parted h, lead, eq-eqb (get_or g 0 0) 46 e, and-true, er, ep, left-whole g 1)
+
+  pub decimal-odd : 1 ≤ length g → (get_or g 0 0 ≡ 46 → ⊥) → false ≡ is_decimal f
+  unfolding is_decimal decimal_parts
+  decimal-odd h e = rw (tail, parted h, ne_eqb (get_or g 0 0) 46 e, and-false)
 
 -- THE WALK: rest is what field k begins
 next_field : (fs : List Bytes) (k : ℕ) (rest : Bytes) → drop k fs ≡ cut rest → drop k fs ≡ first_field rest ∷ drop (k + 1) fs
@@ -99,10 +110,3 @@ module _ (line rest : Bytes) (k : ℕ) (long : length (cut line) ≡ 14) (so_far
   walk_done h g =
       let e : k ≡ 14 = omega arith in
       sym (so_far ∙ rw (e, drop_of_length-le (cut line) (le_of_eq long)))
-
--- FIELD 4: start, stop and multiplier are fields 2 to 4
-pub multiplier_right : (line rest₂ start rest₃ stop rest₄ multiplier : Bytes) (a b d : Bool) → length (cut line) ≡ 14
-    → rest₂ ≡ after_field line → start ≡ first_field rest₂ → rest₃ ≡ after_field rest₂ → stop ≡ first_field rest₃ → rest₄ ≡ after_field rest₃ → multiplier ≡ first_field rest₄
-    → a ≡ is_empty start → b ≡ is_empty stop → d ≡ is_empty multiplier → (a || b || not d) ≡ has_multiplier (cut line)
-multiplier_right line rest₂ start rest₃ stop rest₄ multiplier a b d long a2 e2 a3 e3 a4 e4 ha hb hd =
-    rw (cut_at 1 line (omega arith), cut_at 2 line (omega arith), cut_at 3 line (omega arith), ← a2, ← a3, ← a4, ← e2, ← e3, ← e4, ← ha, ← hb, ← hd)

@@ -1,6 +1,5 @@
 -- Laws of the definitions, by subject; each function's proof cites them.
 pub mod Moment
-pub mod Rows
 pub mod Forms
 pub mod Pairs
 pub mod Passed

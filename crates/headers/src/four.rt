@@ -11,16 +11,17 @@ use lines::row::begin;
 use report::require;
 use report::verdict::Verdict;
 use text::bytes::same;
-use text::fields::{after, field};
+use text::cutting::Fields;
 
 // The fields behind the code.
 fn read_fields(line: &[u8]) -> Result<Stamp, Verdict>
     requires { length (cut line.now) ≡ 3 }
     ensures { says result ≡ four_of (cut line.now) }
 {
-    let rest2 = after(line, field(line));
-    let stamp = field(rest2);
-    let origin = field(after(rest2, stamp));
+    let mut fields = Fields::of(line);
+    fields.next();
+    let stamp = fields.next();
+    let origin = fields.next();
     let time = read_time(stamp)?;
     require(same(origin, b"M"), Verdict::Misfit)?;
     Ok(Stamp::from(time))

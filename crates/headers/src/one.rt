@@ -12,7 +12,7 @@ use lines::row::begin;
 use report::require;
 use report::verdict::Verdict;
 use text::bytes::same;
-use text::fields::{after, field};
+use text::cutting::Fields;
 use text::names::is_esi_id;
 
 // By its number in a cell's address and in a state's words.
@@ -69,17 +69,14 @@ fn read_fields(line: &[u8]) -> Result<One<'_>, Verdict>
     requires { length (cut line.now) ≡ 7 }
     ensures { one_says result ≡ one_of (cut line.now) }
 {
-    let rest2 = after(line, field(line));
-    let id = field(rest2);
-    let rest3 = after(rest2, id);
-    let third = field(rest3);
-    let rest4 = after(rest3, third);
-    let start = field(rest4);
-    let rest5 = after(rest4, start);
-    let stop = field(rest5);
-    let rest6 = after(rest5, stop);
-    let yes = field(rest6);
-    let no = field(after(rest6, yes));
+    let mut fields = Fields::of(line);
+    fields.next();
+    let id = fields.next();
+    let third = fields.next();
+    let start = fields.next();
+    let stop = fields.next();
+    let yes = fields.next();
+    let no = fields.next();
     require(is_esi_id(id), Verdict::Misfit)?;
     let channel = read_channel(third)?;
     let day = read_day(start, stop, yes, no)?;

@@ -1,9 +1,10 @@
 // Row thirty: names with their DUNS numbers; the Sender's is what the loader wants of it.
-ghost use Rattle.std.specs.Prelude.{◌≡◌};
+ghost use Rattle.std.specs.Prelude.{◌≡◌, true, false};
+ghost use Rattle.std.specs.Option.{MatchOption};
 ghost use Rattle.text.specs.Byte.{ascii};
-ghost use Rattle.text.specs.Field.{cut, field_at};
+ghost use Rattle.text.specs.Field.{cut};
 ghost use Rattle.lines.specs.Row.{Due};
-ghost use Rattle.headers.specs.Thirty.{has_duns, ends_thirty, thirty_of, row_thirty};
+ghost use Rattle.headers.specs.Thirty.{behind_name, has_duns, ends_thirty, thirty_of, row_thirty};
 ghost use Rattle.lines.specs.Answer.{line_of};
 ghost use Rattle.headers.specs.Answer.{thirty_says};
 
@@ -11,25 +12,30 @@ use lines::line::Line;
 use lines::row::begin;
 use report::require;
 use report::verdict::Verdict;
-use text::bytes::{begins, same};
-use text::fields::{after, behind, field};
+use text::bytes::same;
+use text::cutting::Fields;
 use text::names::is_duns;
 
-const SENDER_NAME_SIZE: usize = 7;
+// The DUNS number behind its name, where a field is those two.
+fn duns_of<'a>(f: &'a [u8], name: &[u8]) -> Option<&'a [u8]>
+    ensures { MatchOption result (has_duns name.now f.now ≡ false) (λ n. (has_duns name.now f.now ≡ true) × (n.now ≡ behind_name name.now f.now)) }
+{
+    let number = f.strip_prefix(name)?;
+    is_duns(number).then_some(number)
+}
 
 // Whether a field is a name with its DUNS number.
 fn has_duns(f: &[u8], name: &[u8]) -> bool
     ensures { result ≡ has_duns name.now f.now }
 {
-    begins(f, name) & is_duns(behind(f, name.len()))
+    duns_of(f, name).is_some()
 }
 
 // Receiver and REP, the last two fields.
-fn ends_row(rest: &[u8]) -> bool
-    ensures { result ≡ ends_thirty (field_at 0 rest.now) (field_at 1 rest.now) }
+#[tactic(auto, unfolding(crate::specs::Thirty::ends_thirty))]
+fn ends_row(receiver: &[u8], rep: &[u8]) -> bool
+    ensures { result ≡ ends_thirty receiver.now rep.now }
 {
-    let receiver = field(rest);
-    let rep = field(after(rest, receiver));
     same(receiver, b"Receiver=183529049") & (has_duns(rep, b"REP=") | same(rep, b"REP="))
 }
 
@@ -38,18 +44,18 @@ fn read_fields(line: &[u8]) -> Result<&[u8], Verdict>
     requires { Due (ascii "00000030") 6 line.now }
     ensures { thirty_says result ≡ thirty_of (cut line.now) }
 {
-    let rest2 = after(line, field(line));
-    let pairs = field(rest2);
-    let rest3 = after(rest2, pairs);
-    let mre = field(rest3);
-    let rest4 = after(rest3, mre);
-    let sender = field(rest4);
+    let mut fields = Fields::of(line);
+    fields.next();
+    let pairs = fields.next();
+    let mre = fields.next();
+    let sender = fields.next();
+    let receiver = fields.next();
+    let rep = fields.next();
     let fits = same(pairs, b"ATTRIBUTE_VALUE_PAIRS")
         & has_duns(mre, b"MRE=")
-        & has_duns(sender, b"Sender=")
-        & ends_row(after(rest4, sender));
+        & ends_row(receiver, rep);
     require(fits, Verdict::Misfit)?;
-    Ok(behind(sender, SENDER_NAME_SIZE))
+    duns_of(sender, b"Sender=").ok_or(Verdict::Misfit)
 }
 
 pub fn read_thirty<'a>(line: Line<'a>) -> Result<&'a [u8], Verdict>

@@ -8,13 +8,14 @@ use lines::line::Line;
 use lines::row::begin;
 use report::require;
 use report::verdict::Verdict;
-use text::fields::{after, field};
+use text::cutting::Fields;
 use text::names::is_descriptor;
 
 pub fn read_three(line: Line<'_>) -> Result<(), Verdict>
     ensures { says result ≡ row_three (line_of line.entry) }
 {
     begin(line, b"00000003", 2)?;
-    let descriptor = field(after(line.body, field(line.body)));
-    require(is_descriptor(descriptor), Verdict::Misfit)
+    let mut fields = Fields::of(line.body);
+    fields.next();
+    require(is_descriptor(fields.next()), Verdict::Misfit)
 }

@@ -12,6 +12,7 @@ use lines::row::begin;
 use report::require;
 use report::verdict::Verdict;
 use text::bytes::{all_digits, is_empty, same};
+use text::cutting::Fields;
 use text::fields::{after, behind, field};
 use text::numbers::{digits, number_of};
 
@@ -58,12 +59,12 @@ fn is_decimal(f: &[u8]) -> bool
     ensures { result ≡ is_decimal f.now }
 {
     let w = digits(f);
-    if w == f.len() {
-        return (1 <= w) & (w <= 15);
+    let whole = (1 <= w) & (w <= 15);
+    match behind(f, w) {
+        [] => whole,
+        [b'.', part @ ..] => whole & all_digits(part) & (1 <= part.len()) & (part.len() <= 4),
+        _ => false,
     }
-    let part = behind(f, w + 1);
-    let m = part.len();
-    (1 <= w) & (w <= 15) & (f[w] == b'.') & all_digits(part) & (1 <= m) & (m <= 4)
 }
 
 // 1 to n digits.
@@ -131,11 +132,11 @@ fn has_multiplier(line: &[u8]) -> bool
     requires { length (cut line.now) ≡ 14 }
     ensures { result ≡ has_multiplier (cut line.now) }
 {
-    let rest2 = after(line, field(line));
-    let start = field(rest2);
-    let rest3 = after(rest2, start);
-    let stop = field(rest3);
-    let multiplier = field(after(rest3, stop));
+    let mut fields = Fields::of(line);
+    fields.next();
+    let start = fields.next();
+    let stop = fields.next();
+    let multiplier = fields.next();
     is_empty(start) | is_empty(stop) | !is_empty(multiplier)
 }
 

@@ -1,18 +1,21 @@
 -- Bytes of a piece without an LF: more of them, by a stride or by one; and an empty line.
 -- Assumes nothing.
-use mathlib.Core.Path.{◌≡◌, sym, ap, ◌∙◌}
-use mathlib.Core.List.{[], ◌∷◌, ◌++◌}
-use mathlib.Core.Bool.{true, false, ◌&&◌}
-use Prim.Native.Nat.{ℕ, suc, ◌+◌, ◌-◌, ◌<◌, ◌≤◌}
+use mathlib.Core.Path.{◌≡◌, refl, sym, ap, ◌∙◌}
+use mathlib.Core.List.{List, [], ◌∷◌, ◌++◌}
+use mathlib.Core.Bool.{Bool, true, false, cond}
+use Prim.Native.Nat.{ℕ, zero, suc, ◌+◌, ◌-◌, ◌*◌, ◌<◌, ◌≤◌}
 use native.Mathlib.Omega.{arith}
 use lib.Dec.{eqb}
 use lib.ListN.{length, take, drop, get_or, length-append, length-drop}
 use lib.Seq.{take-add, drop-drop, drop-cons, take-append_seam, drop-append_seam, length-take-le}
+use Rattle.std.specs.Iterator.{AlwaysYields}
+use Rattle.std.specs.List.{prefix_len}
+use Rattle.std.specs.Slice.Iter.{chunks_exact_steps}
+use Rattle.std.specs.declared.slice.ChunksExact.{ChunksExact}
 use Rattle.std.proofs.lemmas.List.{get_or-take, get_or-drop}
 use borrow.Author.Tests.{eqb-true}
 use Rattle.text.specs.Byte.{Bytes, every}
 use Rattle.text.proofs.Left.{left-whole}
-use Rattle.text.proofs.Truth.{and_left, and_right}
 use Rattle.text.proofs.Class.{every_append, every_from}
 use Rattle.lines.specs.Line.{LF, CR, not_lf, drop_cr}
 use Rattle.lines.specs.End.{between, NoneTo, LineEnd, LineAt, EmptyAt}
@@ -40,21 +43,6 @@ module _ (piece : Bytes) (at e : ℕ) (n : NoneTo piece at e) where
         clean = rw (between-add piece at e end n.behind h) (every_append not_lf (between at e piece) (between e end piece) n.clean clean);
       }
 
-  -- a stride without one
-  module _ (part rest : Bytes) (size : ℕ) (left : drop e piece ≡ part ++ rest) (whole : length part ≡ size) where
-    stride-part : between e (e + size) piece ≡ part
-    stride-part =
-        let s : e + size - e ≡ length part = omega arith in
-        rw (s, left) (take-append_seam part rest)
-
-    pub stride_left : drop (e + size) piece ≡ rest
-    stride_left =
-        let s : e + size ≡ e + length part = omega arith in
-        rw s (sym (drop-drop (length part) e piece) ∙ rw left (drop-append_seam part rest))
-
-    pub stride_none : every not_lf part ≡ true → NoneTo piece at (e + size)
-    stride_none clean = none_more (e + size) (omega arith) (omega (arith, ap length left, length-append {A = ℕ}, length-drop {A = ℕ}, n.within)) (rw stride-part clean)
-
   -- what is left of the piece has its first LF at a place, or none
   module _ (rest : Bytes) (left : rest ≡ between e (length piece) piece) where
     left_drop : rest ≡ drop e piece
@@ -80,6 +68,50 @@ module _ (piece : Bytes) (at e : ℕ) (n : NoneTo piece at e) where
     pub no_lf : ((k : ℕ) → k < length rest → eqb (get_or rest k 0) LF ≡ false) → LineEnd piece at (length piece)
     no_lf other = record { none = rw left_size at (none_among (length rest) (omega arith) other); ends = λ g. absurd (omega (arith, g)) }
 
+-- ---- STRIDES
+
+-- the first n strides
+abbrev pub strides : ℕ → Bytes → List Bytes
+strides zero s = []
+strides (suc n) s = take 16 s ∷ strides n (drop 16 s)
+
+-- `chunks_exact` gives them
+pub strides_come : (n : ℕ) (parts : ChunksExact ℕ) → parts.size ≡ 16 → n * 16 ≤ length parts.rest.now → length parts.rest.now < n * 16 + 16
+    → AlwaysYields chunks_exact_steps (λ b. b.now) parts (strides n parts.rest.now)
+strides_come zero parts size some few = λ x j h. absurd (omega (arith, size, few, ap length h.1.0, length-append x.now j.rest.now, h.1.1))
+strides_come (suc n) parts size some few = (
+  λ j h. absurd (omega (arith, size, some, h.1.0)),
+  λ x j h.
+      let whole : length x.now ≡ 16 = h.1.1 ∙ size in
+      let part : take 16 parts.rest.now ≡ x.now = rw (← whole, h.1.0) (take-append_seam x.now j.rest.now) in
+      let rest : drop 16 parts.rest.now ≡ j.rest.now = rw (← whole, h.1.0) (drop-append_seam x.now j.rest.now) in
+      let left : length parts.rest.now ≡ 16 + length j.rest.now = omega (arith, whole, ap length h.1.0, length-append x.now j.rest.now) in
+      (sym part, rw rest (strides_come n j (h.0 ∙ size) (omega (arith, left, some)) (omega (arith, left, few)))),
+)
+
+-- over those without an LF
+pub strides_none : (piece : Bytes) (at : ℕ) (n e : ℕ) → NoneTo piece at e → n * 16 ≤ length (drop e piece)
+    → NoneTo piece at (e + 16 * prefix_len (λ b. every not_lf b) (strides n (drop e piece)))
+strides_none piece at zero e none some =
+    let z : e + 16 * 0 ≡ e = omega arith in
+    rw z none
+strides_none piece at (suc n) e none some =
+    let far : length (drop (e + 16) piece) + 16 ≡ length (drop e piece) = omega (arith, some, length-drop e piece, length-drop (e + 16) piece) in
+    go (every not_lf (take 16 (drop e piece))) refl _ refl (λ h. strides_none piece at n (e + 16) h (omega (arith, far, some)))
+  where
+    go : (b : Bool) → every not_lf (take 16 (drop e piece)) ≡ b → (m : ℕ) → prefix_len (λ b. every not_lf b) (strides n (drop 16 (drop e piece))) ≡ m
+        → (NoneTo piece at (e + 16) → NoneTo piece at (e + 16 + 16 * prefix_len (λ b. every not_lf b) (strides n (drop (e + 16) piece))))
+        → NoneTo piece at (e + 16 * cond b (1 + m) 0)
+    go false t m is on =
+        let z : e + 16 * 0 ≡ e = omega arith in
+        rw z none
+    go true t m is on =
+        let size : e + 16 - e ≡ 16 = omega arith in
+        let k : e + 16 + 16 * m ≡ e + 16 * (1 + m) = omega arith in
+        let rest : drop 16 (drop e piece) ≡ drop (e + 16) piece = drop-drop 16 e piece in
+        let len : prefix_len (λ b. every not_lf b) (strides n (drop (e + 16) piece)) ≡ m = rw rest at is in
+        rw k at (rw len at (on (none_more piece at e none (e + 16) (omega arith) (omega (arith, some, length-drop e piece)) (rw size t))))
+
 -- a line with its LF
 pub with_lf : (piece : Bytes) (at end : ℕ) → LineEnd piece at end → end < length piece → between at (suc end) piece ≡ between at end piece ++ (LF ∷ [])
 with_lf piece at end e h =
@@ -88,21 +120,33 @@ with_lf piece at end e h =
 
 -- ---- AN EMPTY LINE
 
-pub empty-lf : (piece : Bytes) (at : ℕ) → at < length piece → get_or piece at 0 ≡ LF → EmptyAt piece at 1
-unfolding every drop_cr
-empty-lf piece at h e =
-    let z : at + 0 ≡ at = omega arith in
-    let none : at - at ≡ 0 = omega arith in
-    record { line = record { some = omega arith; within = omega arith; ends = rw z e; clean = rw (z, none) }; empty = rw (z, none) }
+-- by what is left of the piece at a place
+module _ (piece : Bytes) (at : ℕ) (left : Bytes) (is : left ≡ between at (length piece) piece) where
+  behind-drop : left ≡ drop at piece
+  behind-drop = is ∙ left-whole piece at
 
-pub empty-CR-LF : (piece : Bytes) (at : ℕ) → at + 1 < length piece → (eqb (get_or piece at 0) CR && eqb (get_or piece (at + 1) 0) LF) ≡ true → EmptyAt piece at 2
-unfolding every drop_cr
-empty-CR-LF piece at h e =
-    let c : get_or piece at 0 ≡ CR = eqb-true (get_or piece at 0) CR (and_left (eqb (get_or piece at 0) CR) (eqb (get_or piece (at + 1) 0) LF) e) in
-    let l : get_or piece (at + 1) 0 ≡ LF = eqb-true (get_or piece (at + 1) 0) LF (and_right (eqb (get_or piece at 0) CR) (eqb (get_or piece (at + 1) 0) LF) e) in
-    let one : at + 1 - at ≡ 1 = omega arith in
-    let part : between at (at + 1) piece ≡ CR ∷ [] = rw (one, drop-cons piece at 0 (omega arith), c) in
-    record { line = record { some = omega arith; within = omega arith; ends = l; clean = rw part }; empty = rw part }
+  left_at : (i : ℕ) → get_or piece (at + i) 0 ≡ get_or left i 0
+  left_at i = sym (get_or-drop at piece i 0) ∙ rw behind-drop
+
+  pub empty-lf : 1 ≤ length left → get_or left 0 0 ≡ LF → EmptyAt piece at 1
+  unfolding every drop_cr
+  empty-lf h e =
+      let none : at - at ≡ 0 = omega arith in
+      let z : at + 0 ≡ at = omega arith in
+      record {
+        line = record { some = omega arith; within = omega (arith, h, ap length behind-drop, length-drop at piece); ends = left_at 0 ∙ e; clean = rw (z, none) };
+        empty = rw (z, none);
+      }
+
+  pub empty-CR-LF : 2 ≤ length left → get_or left 0 0 ≡ CR → get_or left 1 0 ≡ LF → EmptyAt piece at 2
+  unfolding every drop_cr
+  empty-CR-LF h c e =
+      let fits : at + 2 ≤ length piece = omega (arith, h, ap length behind-drop, length-drop at piece) in
+      let one : at + 1 - at ≡ 1 = omega arith in
+      let z : at + 0 ≡ at = omega arith in
+      let first : get_or piece at 0 ≡ CR = rw z at (left_at 0 ∙ c) in
+      let part : between at (at + 1) piece ≡ CR ∷ [] = rw (one, drop-cons piece at 0 (omega arith), first) in
+      record { line = record { some = omega arith; within = fits; ends = left_at 1 ∙ e; clean = rw part }; empty = rw part }
 
 -- ---- A LINE WITH ITS LF
 

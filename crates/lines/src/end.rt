@@ -22,14 +22,8 @@ fn stride(piece: &[u8], at: usize) -> usize
     requires { at ≤ length piece.now }
     ensures { NoneTo piece.now at result }
 {
-    let mut e = at;
-    for part in piece[at..].chunks_exact(STRIDE) {
-        if !is_clean(part) {
-            return e;
-        }
-        e += STRIDE;
-    }
-    e
+    let parts = piece[at..].chunks_exact(STRIDE);
+    at + STRIDE * parts.take_while(|part| is_clean(part)).count()
 }
 
 // The place of the first LF at or behind a place; the piece's length, if there is none.
@@ -49,20 +43,11 @@ pub fn line_end(piece: &[u8], at: usize) -> usize
 pub fn empty_line(piece: &[u8], at: usize) -> Option<usize>
     ensures { IfSome result (EmptyAt piece.now at) }
 {
-    let n = piece.len();
-    if n <= at {
-        return None;
+    match piece.get(at..)? {
+        [LF, ..] => Some(1),
+        [CR, LF, ..] => Some(2),
+        _ => None,
     }
-    if piece[at] == LF {
-        return Some(1);
-    }
-    if n - at < 2 {
-        return None;
-    }
-    if (piece[at] == CR) & (piece[at + 1] == LF) {
-        return Some(2);
-    }
-    None
 }
 
 // The bytes of a line: those that were kept of it, with its end behind them, or a part of the piece, where none was held.

@@ -14,7 +14,6 @@ use lib.ListN.{length, take, drop, length-append, length-drop, length-map}
 use lib.Seq.{take_all, length-take-le}
 use Rattle.std.specs.Prelude.{Result, Ok, IsErrAnd}
 use Rattle.report.proofs.Passing.{is-error}
-use Rattle.report.specs.Words.{first_entries}
 use Rattle.lines.specs.End.{between}
 use Rattle.lines.specs.Line.{kept_limit}
 use Rattle.lines.proofs.Ends.{between-add}
@@ -37,11 +36,10 @@ use Rattle.state.specs.declared.State.{State}
 use Rattle.state.specs.View.{view_of}
 use Rattle.state.specs.Refused.{number_for}
 use Rattle.state.proofs.Refusals.{Fits, fits-state, is-allowed, few_bytes, room_enough}
-use Rattle.batches.specs.declared.Batch.{Batch}
 use Rattle.batches.specs.Batch.{Next, Last}
 use Rattle.loader.specs.Keeps.{Keeps}
 use Rattle.loader.specs.Report.{pasted}
-use Rattle.loader.proofs.Reports.{entries-count, paste-behind, paste-front}
+use Rattle.loader.proofs.Reports.{paste-behind, paste-front}
 
 between-whole : (bs : Bytes) (n : ℕ) → n ≡ length bs → between 0 n bs ≡ bs
 between-whole bs n e = take_all (n - 0) (drop 0 bs) (omega arith)
@@ -200,35 +198,32 @@ module _ {A : Type 0} (entries : List A → List Entry) (behind : ℕ → List A
             room_enough s₀ reg (length t₀) (length (entries r₀)) (feed bs) c.goes,
           )
 
-      module _ (t' : Words) (s' : State) (b : Batch) (x : Next reg (scan_of s.scan) bs at b s'.scan t t') where
-        abbrev more : List Entry
-        more = first_entries b.count b.words
-
-        both : Ran (rules_of reg) (scan_of s₀.scan) (between 0 b.at bs) (scan_of s'.scan) (c.told ++ more) t₀ t'
+      module _ (t' : Words) (s' : State) (next : ℕ) (batch : List Entry) (x : Next reg (scan_of s.scan) bs at next batch s'.scan t t') where
+        both : Ran (rules_of reg) (scan_of s₀.scan) (between 0 next bs) (scan_of s'.scan) (c.told ++ batch) t₀ t'
         both =
-            rw (between-add bs 0 at b.at (omega arith) (omega (arith, x.behind)))
-            (ran-both reg (scan_of s₀.scan) (scan_of s.scan) (scan_of s'.scan) (between 0 at bs) (between at b.at bs) c.told more t₀ t t' c.ran x.ran)
+            rw (between-add bs 0 at next (omega arith) (omega (arith, x.behind)))
+            (ran-both reg (scan_of s₀.scan) (scan_of s.scan) (scan_of s'.scan) (between 0 at bs) (between at next bs) c.told batch t₀ t t' c.ran x.ran)
 
-        both-count : length (c.told ++ more) ≡ count + b.count
-        both-count = length-append c.told more ∙ omega (arith, c.counted, entries-count b.count b.words)
+        both-count : length (c.told ++ batch) ≡ count + length batch
+        both-count = length-append c.told batch ∙ omega (arith, c.counted)
 
-        pub few : count + b.count ≤ room_for (length bs)
-        few = omega (arith, both-count, ran-room b.at (scan_of s'.scan) (c.told ++ more) t' x.within both)
+        pub few : count + length batch ≤ room_for (length bs)
+        few = omega (arith, both-count, ran-room next (scan_of s'.scan) (c.told ++ batch) t' x.within both)
 
-        pub fits : count + b.count ≤ length (entries r)
+        pub fits : count + length batch ≤ length (entries r)
         fits = omega (arith, few, room-same, room_enough s₀ reg (length t₀) (length (entries r₀)) (feed bs) c.goes)
 
-        pub steps : (r' : List A) → entries r' ≡ pasted (entries r) count more → ((n : ℕ) → count + b.count ≤ n → behind n r' ≡ behind n r)
-            → s'.taken ≡ s.taken → length t' ≡ length t → Comes t' r' s' b.at (count + b.count)
+        pub steps : (r' : List A) → entries r' ≡ pasted (entries r) count batch → ((n : ℕ) → count + length batch ≤ n → behind n r' ≡ behind n r)
+            → s'.taken ≡ s.taken → length t' ≡ length t → Comes t' r' s' next (count + length batch)
         steps r' e l taken long =
             record {
               goes = c.goes;
               inside = x.within;
-              told = c.told ++ more;
+              told = c.told ++ batch;
               counted = both-count;
               report =
-                  e ∙ rw (c.report, ← c.counted) (paste-behind c.told more (entries r₀))
-                  ∙ ap (λ n. (c.told ++ more) ++ drop n (entries r₀)) both-count;
+                  e ∙ rw (c.report, ← c.counted) (paste-behind c.told batch (entries r₀))
+                  ∙ ap (λ n. (c.told ++ batch) ++ drop n (entries r₀)) both-count;
               left = λ n h. l n h ∙ c.left n (omega (arith, h));
               ran = both;
               taken = taken ∙ c.taken;
@@ -262,13 +257,12 @@ module _ {A : Type 0} (entries : List A → List Entry) (behind : ℕ → List A
     unfolding rules_of
     end-room = (is-allowed s₀ reg (length t₀) (length (entries r₀)) finish goes).long
 
-    module _ (t : Words) (b : Batch) (x : Last reg (scan_of s₀.scan) b t₀ t) where
-      end-count : b.count ≡ length (end_events (rules_of reg) (scan_of s₀.scan))
+    module _ (t : Words) (batch : List Entry) (x : Last reg (scan_of s₀.scan) batch t₀ t) where
+      end-count : length batch ≡ length (end_events (rules_of reg) (scan_of s₀.scan))
       unfolding entries_of
-      end-count =
-          sym (entries-count b.count b.words) ∙ ap length x.tells.entered ∙ length-map (end_events (rules_of reg) (scan_of s₀.scan)) _
+      end-count = ap length x.entered ∙ length-map (end_events (rules_of reg) (scan_of s₀.scan)) _
 
-      pub end-fits : 0 + b.count ≤ length (entries r₀)
+      pub end-fits : 0 + length batch ≤ length (entries r₀)
       end-fits =
           omega (
             arith,
@@ -277,13 +271,11 @@ module _ {A : Type 0} (entries : List A → List Entry) (behind : ℕ → List A
             room_enough s₀ reg (length t₀) (length (entries r₀)) finish goes,
           )
 
-      pub ends : (r : List A) (s : State) → entries r ≡ pasted (entries r₀) 0 (first_entries b.count b.words)
-          → ((n : ℕ) → 0 + b.count ≤ n → behind n r ≡ behind n r₀) → view_of s ≡ view_from fresh → length r ≡ length r₀
-          → Keeps entries behind reg s₀ t₀ finish r₀ (Ok b.count) s t r
+      pub ends : (r : List A) (s : State) → entries r ≡ pasted (entries r₀) 0 batch
+          → ((n : ℕ) → 0 + length batch ≤ n → behind n r ≡ behind n r₀) → view_of s ≡ view_from fresh → length r ≡ length r₀
+          → Keeps entries behind reg s₀ t₀ finish r₀ (Ok (length batch)) s t r
       unfolding done_call view_of entries_of
       ends r s e left new long =
-          let es : List Entry = first_entries b.count b.words in
-          let n : length es ≡ b.count = entries-count b.count b.words in
-          let w : entries r ≡ es ++ drop b.count (entries r₀) = e ∙ paste-front es (entries r₀) ∙ ap (λ k. es ++ drop k (entries r₀)) n in
-          done-keeps reg s₀ t₀ finish r₀ b.count s t r goes refl x.tells.loads end-count new
-          (w ∙ ap (λ es. es ++ drop b.count (entries r₀)) x.tells.entered) long (left b.count (omega arith))
+          let w : entries r ≡ batch ++ drop (length batch) (entries r₀) = e ∙ paste-front batch (entries r₀) in
+          done-keeps reg s₀ t₀ finish r₀ (length batch) s t r goes refl x.loads end-count new
+          (w ∙ ap (λ es. es ++ drop (length batch) (entries r₀)) x.entered) long (left (length batch) (omega arith))

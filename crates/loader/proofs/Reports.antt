@@ -1,5 +1,4 @@
 -- Entries put into a report of entries, and into one of words.
---     entries-count                      as many entries as are asked for
 --     none-pasted, one-pasted            putting entries one by one
 --     pasted-left                        behind those that were put a report is as it was
 --     copied-entries, copied-behind      a batch's words put into a report of words: the entries that it then is, and what is behind them
@@ -11,17 +10,13 @@ use native.Mathlib.Nat.{add-zero, add-suc}
 use native.Mathlib.Numerals.{add-one}
 use native.Mathlib.Omega.{arith}
 use lib.ListN.{length, get_or, set, take, drop, length-append, length-drop, take-append-drop}
-use lib.Seq.{set_at, drop-cons, append_snoc, length-take-le, take_at, drop_at, get_or-take, get_or-drop, drop-drop, drop-append-add}
+use lib.Seq.{set_at, drop-cons, append_snoc, length-take-le, take_at, drop_at, get_or-drop, drop-drop, drop-append-add, take_all}
 use borrow.Rule.Slice.PartMut.{put_mid}
 use Rattle.report.specs.Words.{per_entry, entry_at, first_entries}
 use Rattle.report.specs.declared.Entry.{Entry}
 use Rattle.cell.specs.Layout.{Words}
+use Rattle.pieces.proofs.Batches.{entries-count, entries-take}
 use Rattle.loader.specs.Report.{places_in, report_in, words_left, pasted}
-
-pub entries-count : (n : ℕ) (ws : Words) → length (first_entries n ws) ≡ n
-unfolding first_entries
-entries-count zero ws = refl
-entries-count (suc n) ws = length-append (first_entries n ws) (entry_at ws n ∷ []) ∙ ap (λ k. k + 1) (entries-count n ws) ∙ add-one n
 
 -- ---- OF ENTRIES
 
@@ -79,22 +74,6 @@ paste-front es r₀ =
     rw n
 
 -- ---- OF WORDS
-
-entries-same : (n : ℕ) (w v : Words) → ((i : ℕ) → i < n * per_entry → get_or w i 0 ≡ get_or v i 0) → first_entries n w ≡ first_entries n v
-unfolding first_entries
-entries-same zero w v h = refl
-entries-same (suc n) w v h =
-    rw (
-      entries-same n w v (λ i l. h i (omega arith)),
-      h (n * per_entry) (omega arith),
-      h (n * per_entry + 1) (omega arith),
-      h (n * per_entry + 2) (omega arith),
-      h (n * per_entry + 3) (omega arith),
-      h (n * per_entry + 4) (omega arith),
-    )
-
-entries-take : (n : ℕ) (w : Words) → first_entries n (take (n * per_entry) w) ≡ first_entries n w
-entries-take n w = entries-same n (take (n * per_entry) w) w (λ i l. get_or-take (n * per_entry) w i 0 l)
 
 word-drop : (a k i : ℕ) (w : Words) → i ≡ a + k → get_or (drop a w) k 0 ≡ get_or w i 0
 word-drop a k i w e = get_or-drop a w k 0 ∙ ap (λ j. get_or w j 0) (sym e)
@@ -219,17 +198,23 @@ module _ (w words : Words) (from count : ℕ) (fits : from + count ≤ places_in
       ∙ ap (λ l. l ++ first_entries count words ++ last) (sym old_first)
       ∙ ap (λ l. take from (report_in w) ++ first_entries count words ++ l) (sym old_last)
 
--- and so a copy of them into that part of a report leaves it
-module _ (w words ys : Words) (from count k : ℕ) (fits : from + count ≤ length (report_in w)) (worded : count * per_entry ≤ length words)
-    (as-many : k ≡ count * per_entry) (is : ys ≡ take (count * per_entry) words) where
-  room : from + count ≤ places_in w
+-- and so a copy of all words of a batch into that part of a report leaves it
+module _ (w words : Words) (batch : List Entry) (from k : ℕ) (fits : from + length batch ≤ length (report_in w))
+    (are : first_entries (length batch) words ≡ batch) (as-many : length words ≡ length batch * per_entry) (all-of : k ≡ length words) where
+  room : from + length batch ≤ places_in w
   room = omega (arith, fits, entries-count (places_in w) w)
 
-  copied : put_mid (from * per_entry) k w ys ≡ new w words from count room worded
-  copied = rw (as-many, is) (words-put w words from count room worded)
+  worded : length batch * per_entry ≤ length words
+  worded = omega (arith, as-many)
 
-  pub copied-entries : report_in (put_mid (from * per_entry) k w ys) ≡ pasted (report_in w) from (first_entries count words)
-  copied-entries = ap report_in copied ∙ words-pasted w words from count room worded
+  copied : put_mid (from * per_entry) k w words ≡ new w words from (length batch) room worded
+  copied =
+      rw (all-of, as-many)
+      (ap (put_mid (from * per_entry) (length batch * per_entry) w) (sym (take_all (length batch * per_entry) words (omega (arith, as-many))))
+      ∙ words-put w words from (length batch) room worded)
 
-  pub copied-behind : (j : ℕ) → from + count ≤ j → words_left j (put_mid (from * per_entry) k w ys) ≡ words_left j w
-  copied-behind j behind = ap (words_left j) copied ∙ words-behind w words from count room worded j behind
+  pub copied-entries : report_in (put_mid (from * per_entry) k w words) ≡ pasted (report_in w) from batch
+  copied-entries = ap report_in copied ∙ words-pasted w words from (length batch) room worded ∙ ap (pasted (report_in w) from) are
+
+  pub copied-behind : (j : ℕ) → from + length batch ≤ j → words_left j (put_mid (from * per_entry) k w words) ≡ words_left j w
+  copied-behind j behind = ap (words_left j) copied ∙ words-behind w words from (length batch) room worded j behind

@@ -37,10 +37,10 @@ pub fn feed<T: Slot>(
     let mut at: usize = 0;
     let mut count: usize = 0;
     while at < piece.len() {
-        let batch = next_batch(&mut state.scan, piece, at, &mut index, table);
+        let (next, batch) = next_batch(&mut state.scan, piece, at, &mut index, table);
         T::put(report, count, &batch);
-        at = batch.at;
-        count += batch.count;
+        at = next;
+        count += batch.count();
     }
     Ok(count)
 }
@@ -57,5 +57,5 @@ pub fn finish<T: Slot>(
     let batch = end_file(&mut state.scan, &index, table);
     T::put(report, 0, &batch);
     *state = fresh();
-    Ok(batch.count)
+    Ok(batch.count())
 }

@@ -1,11 +1,9 @@
 // What a report is made of: entries, or words, five an entry, for programs and for callers in other languages.
 ghost use Rattle.std.specs.Prelude.{◌≡◌, ℕ, List, ◌+◌, ◌≤◌, length};
-ghost use Rattle.report.specs.Words.{first_entries};
 ghost use Rattle.report.specs.declared.Entry.{Entry as Entered};
-ghost use Rattle.pieces.specs.Ran.{batch_size};
 ghost use Rattle.loader.specs.Report.{pasted, itself, left, report_in, words_left};
 
-use batches::Batch;
+use pieces::batch::Batch;
 use report::Entry;
 use report::words::{PER_ENTRY, entry_at};
 
@@ -21,10 +19,9 @@ pub trait Slot: Drop {
 
     // Puts a batch's entries behind the first so many.
     fn put(report: &mut [Self], from: usize, batch: &Batch)
-        requires fits { from + batch.now.count ≤ length (entries report.old) }
-        requires few { batch.now.count ≤ batch_size }
-        ensures entered { entries report.new ≡ pasted (entries report.old) from (first_entries batch.now.count batch.now.words) }
-        ensures behind { (n : ℕ) → from + batch.now.count ≤ n → behind n report.new ≡ behind n report.old };
+        requires { from + length batch.now ≤ length (entries report.old) }
+        ensures entered { entries report.new ≡ pasted (entries report.old) from batch.now }
+        ensures behind { (n : ℕ) → from + length batch.now ≤ n → behind n report.new ≡ behind n report.old };
 }
 
 impl Slot for Entry {
@@ -37,8 +34,9 @@ impl Slot for Entry {
     }
 
     fn put(report: &mut [Entry], from: usize, batch: &Batch) {
-        for i in 0..batch.count {
-            report[from + i] = entry_at(&batch.words, i);
+        let words = batch.words();
+        for i in 0..batch.count() {
+            report[from + i] = entry_at(words, i);
         }
     }
 }
@@ -54,7 +52,7 @@ impl Slot for u32 {
 
     fn put(report: &mut [u32], from: usize, batch: &Batch) {
         let at = from * PER_ENTRY;
-        let n = batch.count * PER_ENTRY;
-        report[at..at + n].copy_from_slice(&batch.words[..n]);
+        let words = batch.words();
+        report[at..at + words.len()].copy_from_slice(words);
     }
 }

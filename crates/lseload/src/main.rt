@@ -19,7 +19,8 @@ const CELLS: usize = 64;
 
 const TABLE_WORDS: usize = CELLS * Cell::WIDTH;
 
-// The bytes of one feed, and the words that its report must hold.
+// The bytes of one feed, and the words that its report must hold: two entries and one for each two bytes. A constant's value can't call a function that
+// says so for all programs (tried).
 const PIECE_SIZE: usize = 262_144;
 
 const REPORT_WORDS: usize = PER_ENTRY * (2 + PIECE_SIZE / 2);

@@ -2,3 +2,4 @@
 pub mod Running
 pub mod PlainLine
 pub mod Moving
+pub mod Batches

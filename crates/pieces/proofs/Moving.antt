@@ -1,7 +1,7 @@
 -- A run of lines and the line behind it; and as far as a batch has come, run after run and line after line.
 -- Assumes nothing.
 use mathlib.Core.Path.{◌≡◌, refl, sym, ap, ◌∙◌}
-use mathlib.Core.List.{List, ◌++◌, append_assoc}
+use mathlib.Core.List.{List, [], ◌++◌, append_assoc}
 use mathlib.Core.Bool.{Bool, true, false, ◌&&◌}
 use Prim.Native.Nat.{ℕ, ◌+◌, ◌-◌, ◌*◌, ◌<◌, ◌≤◌}
 use native.Mathlib.Omega.{arith}
@@ -9,7 +9,6 @@ use lib.Dec.{leb, ltb}
 use lib.ListN.{length, take, length-take}
 use lib.Seq.{take_all}
 use borrow.Author.Tests.{ltb-true, ltb-false, leb-true, leb-false}
-use Rattle.report.specs.Words.{first_entries}
 use Rattle.text.specs.Byte.{Bytes}
 use Rattle.text.proofs.Truth.{and_left, and_right}
 use Rattle.lines.specs.Line.{kept_limit}
@@ -29,8 +28,7 @@ use Rattle.runs.specs.declared.Passed.{Passed}
 use Rattle.runs.specs.Run.{Asks, Passes}
 use Rattle.pieces.specs.declared.Scan.{Scan as KeptScan}
 use Rattle.pieces.specs.declared.line.Moved.{Moved}
-use Rattle.pieces.specs.declared.run.Run.{Run}
-use Rattle.pieces.specs.Ran.{scan_of, Ran, Holds, told_in, Moves, batch_size, most_said, Puts, Runs}
+use Rattle.pieces.specs.Ran.{scan_of, Ran, Holds, told_in, Moves, batch_size, most_said, Runs}
 use Rattle.pieces.proofs.Running.{ran-both, ran-none}
 
 -- ---- A RUN
@@ -69,71 +67,64 @@ module _ (s : KeptScan) (piece : Bytes) (at : ℕ) (h : Holds s (length piece - 
 -- ---- A BATCH
 
 -- as far as a batch has come
-pub record Comes (reg : Bytes) (from : Scan) (piece : Bytes) (at : ℕ) (r : Run) (s : KeptScan) (before after out : Words) : Type 0 where
-  pub behind : at ≤ r.at
-  pub within : r.at ≤ length piece
-  pub holds : Holds s (length piece - r.at)
-  pub ran : Ran (rules_of reg) from (between at r.at piece) (scan_of s) (first_entries r.count out) before after
+pub record Comes (reg : Bytes) (from : Scan) (piece : Bytes) (at next : ℕ) (s : KeptScan) (before after : Words) (batch : List Entry) : Type 0 where
+  pub behind : at ≤ next
+  pub within : next ≤ length piece
+  pub holds : Holds s (length piece - next)
+  pub ran : Ran (rules_of reg) from (between at next piece) (scan_of s) batch before after
 
-pub comes_first : (reg : Bytes) (s : KeptScan) (t out : Words) (piece : Bytes) (at : ℕ)
+pub comes_first : (reg : Bytes) (s : KeptScan) (t : Words) (piece : Bytes) (at : ℕ)
     → Holds s (length piece - at) → at ≤ length piece
-    → Comes reg (scan_of s) piece at (record { at = at; count = 0 }) s t t out
-unfolding first_entries
-comes_first reg s t out piece at h within =
+    → (batch : List Entry) → batch ≡ [] → Comes reg (scan_of s) piece at at s t t batch
+comes_first reg s t piece at h within batch empty =
     let z : at - at ≡ 0 = omega arith in
-    record { behind = omega arith; within = within; holds = h; ran = rw z (ran-none (rules_of reg) s t h.few) }
+    record { behind = omega arith; within = within; holds = h; ran = rw (z, empty) (ran-none (rules_of reg) s t h.few) }
 
-module _ (reg : Bytes) (from : Scan) (piece : Bytes) (at : ℕ) (r : Run) (s : KeptScan) (before after out : Words)
-    (c : Comes reg from piece at r s before after out) where
-  comes_by : (r' : Run) (s' : KeptScan) (after' out' : Words) (es : List Entry) → r.at ≤ r'.at → r'.at ≤ length piece
-      → Holds s' (length piece - r'.at) → Ran (rules_of reg) (scan_of s) (between r.at r'.at piece) (scan_of s') es after after'
-      → first_entries r'.count out' ≡ first_entries r.count out ++ es
-      → Comes reg from piece at r' s' before after' out'
-  comes_by r' s' after' out' es behind within holds ran said =
+module _ (reg : Bytes) (from : Scan) (piece : Bytes) (at next : ℕ) (s : KeptScan) (before after : Words) (batch : List Entry)
+    (c : Comes reg from piece at next s before after batch) where
+  comes_by : (next' : ℕ) (s' : KeptScan) (after' : Words) (es : List Entry) → next ≤ next' → next' ≤ length piece
+      → Holds s' (length piece - next') → Ran (rules_of reg) (scan_of s) (between next next' piece) (scan_of s') es after after'
+      → Comes reg from piece at next' s' before after' (batch ++ es)
+  comes_by next' s' after' es behind within holds ran =
       record {
         behind = omega (arith, c.behind);
         within = within;
         holds = holds;
         ran =
-            rw (between-add piece at r.at r'.at c.behind behind, said)
-            (ran-both reg _ _ _ (between at r.at piece) (between r.at r'.at piece) (first_entries r.count out) es before after after' c.ran ran);
+            rw (between-add piece at next next' c.behind behind)
+            (ran-both reg _ _ _ (between at next piece) (between next next' piece) batch es before after after' c.ran ran);
       }
 
   -- a run of lines, and what is said behind it
-  pub comes_run : (q : Passed KeptUnit) (parts : Parts) → Passes s.unit s.lines s.held piece r.at s.parts q parts → (next : Stepped)
-      → Reads (judged_if q.all reg q.lines (unit_of q.unit parts)) (unit_of next.unit parts) (told next.said)
-      → (n : ℕ) (out' : Words) → Puts r.count out next.said n out'
-      → Comes reg from piece at (record { at = q.at; count = n }) (record { kept = s.kept; held = s.held; lines = q.lines; unit = next.unit; parts = parts })
-      before after out'
-  comes_run q parts p next j n out' put =
-      comes_by (record { at = q.at; count = n }) (record { kept = s.kept; held = s.held; lines = q.lines; unit = next.unit; parts = parts }) after out'
-      (told next.said) p.behind p.within (run_holds s piece r.at c.holds reg q parts after p next j)
-      (run_ran s piece r.at c.holds reg q parts after p next j) put.0
+  pub comes_run : (q : Passed KeptUnit) (parts : Parts) → Passes s.unit s.lines s.held piece next s.parts q parts → (step : Stepped)
+      → Reads (judged_if q.all reg q.lines (unit_of q.unit parts)) (unit_of step.unit parts) (told step.said)
+      → Comes reg from piece at q.at (record { kept = s.kept; held = s.held; lines = q.lines; unit = step.unit; parts = parts }) before after
+      (batch ++ told step.said)
+  comes_run q parts p step j =
+      comes_by q.at (record { kept = s.kept; held = s.held; lines = q.lines; unit = step.unit; parts = parts }) after (told step.said) p.behind p.within
+      (run_holds s piece next c.holds reg q parts after p step j) (run_ran s piece next c.holds reg q parts after p step j)
 
   -- a line, or what the piece has of it
-  pub comes_line : (m : Moved) (s' : KeptScan) (after' : Words) → Moves reg (scan_of s) piece r.at m s' after after'
-      → (n₁ n₂ : ℕ) (out₁ out₂ : Words) → Puts r.count out m.first n₁ out₁ → Puts n₁ out₁ m.second n₂ out₂
-      → Comes reg from piece at (record { at = m.at; count = n₂ }) s' before after' out₂
-  comes_line m s' after' v n₁ n₂ out₁ out₂ a b =
-      comes_by (record { at = m.at; count = n₂ }) s' after' out₂ (told_in m) v.behind v.within
-      v.holds v.ran (b.0 ∙ rw a.0 (append_assoc (first_entries r.count out) (told m.first) (told m.second)))
+  pub comes_line : (m : Moved) (s' : KeptScan) (after' : Words) → Moves reg (scan_of s) piece next m s' after after'
+      → Comes reg from piece at m.at s' before after' ((batch ++ told m.first) ++ told m.second)
+  comes_line m s' after' v =
+      rw (append_assoc batch (told m.first) (told m.second)) (comes_by m.at s' after' (told_in m) v.behind v.within v.holds v.ran)
 
-  pub comes_end : (b : Bool) → b ≡ (ltb r.at (length piece) && leb (r.count + most_said) batch_size) → b ≡ false → r.count ≤ batch_size
-      → r.count ≤ most_said * (r.at - at) → Runs reg from piece at r s before after out
-  comes_end b e h room moves =
+  pub comes_end : (n : ℕ) → n ≡ length batch → (b : Bool) → b ≡ (ltb next (length piece) && leb (n + most_said) batch_size) → b ≡ false
+      → length batch ≤ most_said * (next - at) → Runs reg from piece at next s before after batch
+  comes_end n is b e h moves =
       record {
         behind = c.behind;
-        moved = λ more. moves_on (ltb r.at (length piece)) refl (leb (r.count + most_said) batch_size) refl (sym e ∙ h) more;
+        moved = λ more. moves_on (ltb next (length piece)) refl (leb (n + most_said) batch_size) refl (sym e ∙ h) more;
         within = c.within;
-        room = room;
         holds = c.holds;
         ran = c.ran;
       }
     where
-      moves_on : (p : Bool) → ltb r.at (length piece) ≡ p → (q : Bool) → leb (r.count + most_said) batch_size ≡ q → (p && q) ≡ false
-          → at < length piece → at < r.at
-      moves_on false f q g z more = omega (arith, ltb-false r.at (length piece) f)
-      moves_on true f false g z more = omega (arith, leb-false (r.count + most_said) batch_size g, moves)
+      moves_on : (p : Bool) → ltb next (length piece) ≡ p → (q : Bool) → leb (n + most_said) batch_size ≡ q → (p && q) ≡ false
+          → at < length piece → at < next
+      moves_on false f q g z more = omega (arith, ltb-false next (length piece) f)
+      moves_on true f false g z more = omega (arith, leb-false (n + most_said) batch_size g, moves, is)
       moves_on true f true g z more = absurd (let y : ◌≡◌ {A = ℕ} 0 1 = cc in omega arith)
 
 pub goes_true : (at len count : ℕ) (b : Bool) → b ≡ (ltb at len && leb (count + most_said) batch_size) → b ≡ true → (at < len) × (count + most_said ≤ batch_size)

@@ -1,13 +1,13 @@
 -- A scan as the code keeps it: the kept bytes at the front of a run of 201, the line count, the unit with what is lent of its record; and what some
 -- bytes of a piece do to it. What goes by in a run is in runs/specs/Run.
 -- Assumes nothing.
-use Rattle.std.specs.Prelude.{◌≡◌, List, ◌++◌, Option, ℕ, ◌+◌, ◌-◌, ◌*◌, ◌<◌, ◌≤◌, length, take}
+use Rattle.std.specs.Prelude.{◌≡◌, List, ◌++◌, ℕ, ◌+◌, ◌-◌, ◌*◌, ◌<◌, ◌≤◌, length, take}
 use Rattle.text.specs.Byte.{Bytes}
 use Rattle.lines.specs.Line.{kept_limit}
 use Rattle.lines.specs.End.{between}
 use Rattle.cell.specs.Layout.{Words}
 use Rattle.report.specs.declared.Entry.{Entry}
-use Rattle.report.specs.Words.{per_entry, first_entries}
+use Rattle.report.specs.Words.{per_entry}
 use Rattle.plain.specs.Rows.{Rules, rules_of, max_details}
 use Rattle.plain.specs.Loader.{Scan, scan, scan_to, scan_events}
 use Rattle.plain.specs.Call.{byte_limit}
@@ -15,7 +15,6 @@ use Rattle.plain.specs.Promise.{cut_scan, details_in}
 use Rattle.units.specs.Answer.{unit_of, told, Tells}
 use Rattle.pieces.specs.declared.Scan.{Scan as KeptScan}
 use Rattle.pieces.specs.declared.line.Moved.{Moved}
-use Rattle.pieces.specs.declared.run.Run.{Run}
 
 abbrev pub scan_of : KeptScan → Scan
 scan_of s = scan (take s.held s.kept) s.lines (unit_of s.unit s.parts)
@@ -55,15 +54,10 @@ batch_words = batch_size * per_entry
 abbrev pub most_said : ℕ
 most_said = 3
 
--- the entry of a verdict, if one fell, put behind the first n
-abbrev pub Puts : ℕ → Words → Option Entry → ℕ → Words → Type 0
-Puts n before said n' after = (first_entries n' after ≡ first_entries n before ++ told said) × (n ≤ n') × (n' ≤ n + 1)
-
--- lines read from a place on, as long as a batch has room for them
-pub record Runs (reg : Bytes) (from : Scan) (piece : Bytes) (at : ℕ) (r : Run) (s : KeptScan) (before after out : Words) : Type 0 where
-  pub behind : at ≤ r.at
-  pub moved : at < length piece → at < r.at
-  pub within : r.at ≤ length piece
-  pub room : r.count ≤ batch_size
-  pub holds : Holds s (length piece - r.at)
-  pub ran : Ran (rules_of reg) from (between at r.at piece) (scan_of s) (first_entries r.count out) before after
+-- lines read from a place on to the next, as long as a batch has room for them
+pub record Runs (reg : Bytes) (from : Scan) (piece : Bytes) (at next : ℕ) (s : KeptScan) (before after : Words) (batch : List Entry) : Type 0 where
+  pub behind : at ≤ next
+  pub moved : at < length piece → at < next
+  pub within : next ≤ length piece
+  pub holds : Holds s (length piece - next)
+  pub ran : Ran (rules_of reg) from (between at next piece) (scan_of s) batch before after

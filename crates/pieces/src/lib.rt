@@ -1,8 +1,9 @@
 // A piece of the file, line by line: lines of which nothing is said go by in runs, each other line goes to the unit, and bytes of a line are kept until
 // its LF comes.
 //
-//     let run = read_lines(&mut scan, piece, at, &mut index, table, &mut words);     // from place `at` on, as many lines as `words` has room for
-//     // run.at is the place behind them; run.count entries of their verdicts are in `words`
+//     let mut batch = Batch::new();
+//     at = read_lines(&mut scan, piece, at, &mut index, table, &mut batch);     // from place `at` on, as many lines as the batch has room for
+//     // `at` is the place behind them; the entries of their verdicts are in the batch
 //
 // For whoever changes it: what a line does is in units, what goes by in a run in runs; what bytes do to a scan is `scan_to` of plain/specs/Loader.antt.
 #![tactic(auto)]
@@ -11,6 +12,7 @@ use lines::keep::KEPT_LIMIT;
 use records::Parts;
 use units::Unit;
 
+pub mod batch;
 pub mod line;
 pub mod run;
 

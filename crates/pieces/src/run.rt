@@ -1,39 +1,14 @@
-// Lines of a piece, one run and one line after the other, with the entries of their verdicts put as words.
-ghost use Rattle.std.specs.Prelude.{◌≡◌, ◌&&◌, ◌+◌, ◌-◌, ◌<◌, ◌≤◌, leb, ltb, length};
+// Lines of a piece, one run and one line after the other, with the entries of their verdicts put into a batch.
+ghost use Rattle.std.specs.Prelude.{◌≡◌, [], ◌&&◌, ◌+◌, ◌-◌, ◌<◌, ◌≤◌, leb, ltb, length};
 ghost use Rattle.units.specs.Answer.{HasRoom};
-ghost use Rattle.pieces.specs.Ran.{scan_of, Holds, batch_size, most_said, Puts, Runs};
+ghost use Rattle.pieces.specs.Ran.{scan_of, Holds, batch_size, most_said, Runs};
 
 use crate::Scan;
+use crate::batch::{BATCH_SIZE, Batch};
 use crate::line::next_line;
 use registry::Index;
-use report::Entry;
-use report::words::{PER_ENTRY, put_entry};
 use runs::run_over;
 use units::{Unit, judged};
-
-// The entries that one batch has room for.
-pub const BATCH_SIZE: usize = 256;
-
-pub const BATCH_WORDS: usize = BATCH_SIZE * PER_ENTRY;
-
-// The place behind what was read, and how many entries were put.
-#[derive(Clone, Copy, Debug, PartialEq, Eq)]
-pub struct Run {
-    pub at: usize,
-    pub count: usize,
-}
-
-// Puts the entry of a verdict, if one fell, behind those that are there; how many there are then.
-pub fn put(out: &mut [u32; BATCH_WORDS], count: usize, said: Option<Entry>) -> usize
-    requires { count < batch_size }
-    ensures { Puts count out.old said result out.new }
-{
-    let Some(e) = said else {
-        return count;
-    };
-    put_entry(out, count, e);
-    count + 1
-}
 
 // The most verdicts that fall between two looks at the room: one behind a run of rows, two at a line.
 const MOST: usize = 3;
@@ -55,34 +30,34 @@ fn leave_hint(index: &mut Index<'_>, unit: Unit)
     }
 }
 
-// Lines from a place of the piece on, as long as the batch has room.
+// Lines from a place of the piece on, as long as the batch has room; the place behind them.
 pub fn read_lines(
     scan: &mut Scan,
     piece: &[u8],
     at: usize,
     index: &mut Index<'_>,
     table: &mut [u32],
-    out: &mut [u32; BATCH_WORDS],
-) -> Run
+    batch: &mut Batch,
+) -> usize
     requires room { HasRoom index.old table.old }
     requires holds { Holds scan.old (length piece.now - at) }
     requires within { at ≤ length piece.now }
+    requires empty { batch.old ≡ [] }
     ensures index { index.new ≡ index.old }
-    ensures ran { Runs index.old (scan_of scan.old) piece.now at result scan.new table.old table.new out.new }
+    ensures ran { Runs index.old (scan_of scan.old) piece.now at result scan.new table.old table.new batch.new }
 {
     let mut e = at;
-    let mut count: usize = 0;
-    while goes_on(e, piece.len(), count) {
+    while goes_on(e, piece.len(), batch.count()) {
         let passed = run_over(scan.unit, scan.lines, scan.held, piece, e, &mut scan.parts);
         let next = judged(passed.unit, passed.all, passed.lines, index, &scan.parts);
-        count = put(out, count, next.said);
+        batch.put(next.said);
         leave_hint(index, next.unit);
         scan.lines = passed.lines;
         scan.unit = next.unit;
         let moved = next_line(scan, piece, passed.at, index, table);
-        count = put(out, count, moved.first);
-        count = put(out, count, moved.second);
+        batch.put(moved.first);
+        batch.put(moved.second);
         e = moved.at;
     }
-    Run { at: e, count }
+    e
 }

@@ -57,6 +57,6 @@ row_says (Err f) day r = refused_with (verdict_number f.verdict) f.meter day
 abbrev pub one_more : Progress → Progress
 one_more p = record { read = suc p.read; due = p.due; day = p.day; channel = p.channel }
 
--- no more rows than a state may hold
+-- no more rows than a state may hold; no invariant, since C's words may be any state, and refusal 1 is what asks
 abbrev pub Few : Progress → Type 0
 Few p = p.read ≤ header_rows + max_details

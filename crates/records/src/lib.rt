@@ -123,6 +123,7 @@ fn row_four(p: Progress, line: Line<'_>, parts: &mut Parts) -> Result<Progress, 
     requires { Few p }
     ensures says { header_says result p.day parts.new ≡ four_row (rows_of p parts.old) (line_of line.entry) }
     ensures stays { OnErr result (parts.new ≡ parts.old) }
+    ensures id { parts.new.id ≡ parts.old.id }
 {
     let stamp = read_four(line)?;
     put_stamp(&mut parts.words, stamp);
@@ -133,6 +134,7 @@ fn row_thirty(p: Progress, line: Line<'_>, parts: &mut Parts) -> Result<Progress
     requires { Few p }
     ensures says { header_says result p.day parts.new ≡ thirty_row (rows_of p parts.old) (line_of line.entry) }
     ensures stays { OnErr result (parts.new ≡ parts.old) }
+    ensures id { parts.new.id ≡ parts.old.id }
 {
     let number = read_thirty(line)?;
     put_padded(&mut parts.sender, number);
@@ -144,6 +146,7 @@ pub fn row_header(p: Progress, line: Line<'_>, parts: &mut Parts) -> Result<Prog
     requires { p.read < header_rows }
     ensures says { (reg : Bytes) → header_says result p.day parts.new ≡ next_row reg (rows_of p parts.old) (line_of line.entry) }
     ensures stays { OnErr result (parts.new ≡ parts.old) }
+    ensures id { parts.new.id ≡ parts.old.id }
 {
     match p.read {
         0 => row_checked(p, read_two(line)),
@@ -196,7 +199,8 @@ fn row_detail(
     parts: &mut Parts,
 ) -> Result<After, Fault>
     requires { Few p × (header_rows ≤ p.read) }
-    ensures { row_says result p.day parts.new ≡ next_row index.now (rows_of p parts.old) (line_of line.entry) }
+    ensures says { row_says result p.day parts.new ≡ next_row index.now (rows_of p parts.old) (line_of line.entry) }
+    ensures id { parts.new.id ≡ parts.old.id }
 {
     let k = p.read - HEADER_ROWS;
     let row = read_detail(line, k)?;
@@ -213,7 +217,8 @@ pub fn row_next(
     parts: &mut Parts,
 ) -> Result<After, Fault>
     requires { Few p }
-    ensures { row_says result p.day parts.new ≡ next_row index.now (rows_of p parts.old) (line_of line.entry) }
+    ensures says { row_says result p.day parts.new ≡ next_row index.now (rows_of p parts.old) (line_of line.entry) }
+    ensures id { parts.new.id ≡ parts.old.id }
 {
     if p.read < HEADER_ROWS {
         return Ok(After::GoesOn(row_header(p, line, parts)?));

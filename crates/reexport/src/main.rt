@@ -26,7 +26,7 @@ const WORDS: usize = 8 * Cell::WIDTH;
 // Room for three records.
 const TEXT: usize = 6000;
 
-// The words that a report of it must hold.
+// The words that a report of it must hold, by hand as in lseload.
 const REPORT: usize = PER_ENTRY * (2 + TEXT / 2);
 
 // Meter 0, load, window day 0.

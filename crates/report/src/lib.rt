@@ -13,7 +13,8 @@ pub mod refusal;
 pub mod verdict;
 pub mod words;
 
-// One unit's verdict in the report: its first line, the verdict, the deciding line, the meter (1 upward; 0 unknown), the day as YYYYMMDD (0 unknown).
+// One unit's verdict in the report: its first line, the verdict, the deciding line, the meter (1 upward; 0 unknown), the day as YYYYMMDD (0 unknown). Its
+// fields are numbers, as document 01 has them: an entry may be read back from any words.
 #[derive(Clone, Copy, Debug, PartialEq, Eq)]
 pub struct Entry {
     pub first: u32,

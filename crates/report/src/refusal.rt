@@ -30,5 +30,5 @@ impl From<Refusal> for u32 {
     }
 }
 
-// The number of a call that is done.
+// The number of a call that is done. It is no refusal.
 pub const DONE: u32 = 0;

@@ -43,7 +43,8 @@ impl From<Verdict> for u32 {
     }
 }
 
-// Why a record is refused: the verdict, and the meter as the report numbers it, from 1; 0 where it is unknown.
+// Why a record is refused: the verdict, and the meter as the report numbers it, from 1; 0 where it is unknown, as in the entry, which is
+// all that it is for.
 #[derive(Clone, Copy, Debug, PartialEq, Eq)]
 pub struct Fault {
     pub verdict: Verdict,
@@ -58,5 +59,5 @@ impl From<Verdict> for Fault {
     }
 }
 
-// The number in the place of a verdict in the entry of a record that was loaded.
+// The number in the place of a verdict in the entry of a record that was loaded. It is no verdict: none refuses with it.
 pub const LOADED: u32 = 0;

@@ -28,7 +28,7 @@ fn put_stamp<const N: usize>(text: &mut Text<N>, stamp: Stamp)
     put_time(text, stamp.date, stamp.clock);
 }
 
-// A channel by its number, with the comma before it: load is 0, generation 1.
+// A channel by its number, as an address has it, with the comma before it: load is 0, generation 1.
 fn put_channel<const N: usize>(text: &mut Text<N>, channel: usize)
     requires { length text.old + length (comma ∷ channel_text channel) ≤ N }
     ensures { text.new ≡ text.old ++ comma ∷ channel_text channel }

@@ -21,7 +21,6 @@ use Rattle.details.specs.declared.detail.Interval.{Interval}
 use Rattle.cell.specs.Read.{with_intervals}
 use Rattle.plain.specs.Rows.{Rows, goes_on, header_rows, max_details, with_row, checked, after_detail, detail_row, next_row, rules_of}
 use Rattle.plain.specs.Loader.{takes_rows, settle, step_kind, step_line}
-use Rattle.plain.specs.Call.{byte_limit}
 use Rattle.plain.proofs.Seam.{starts_split}
 use Rattle.direct.specs.Direct.{DetailLine}
 use Rattle.records.specs.declared.Progress.{Progress}
@@ -30,7 +29,7 @@ use Rattle.records.specs.Answer.{rows_of, Few}
 use Rattle.records.proofs.Steps.{due_detail}
 use Rattle.units.specs.Answer.{judged_if}
 use Rattle.runs.specs.declared.rows.Taken.{Taken}
-use Rattle.runs.specs.Run.{with_read, Took, DetailTook, DetailTaken, rows_to, RowsRan}
+use Rattle.runs.specs.Run.{with_read, Took, DetailTook, DetailTaken, FitsFrom, rows_to, RowsRan}
 use Rattle.runs.proofs.LineMore.{empty-step, rows-begin, rows_more}
 
 -- ---- ONE LINE
@@ -154,11 +153,11 @@ module _ (p : Progress) (lines : ℕ) (piece : Bytes) (at : ℕ) (before : Parts
   abbrev pub DetailsTo : Parts → ℕ → ℕ → ℕ → Type 0
   DetailsTo parts k n e = RowsRan p lines piece at before (rows_to p (header_rows + k) n e (all_in p.due from k)) parts
 
-  pub details_begin : Few p → from ≡ p.read - header_rows → header_rows ≤ p.read → at ≤ length piece → lines + (length piece - at) ≤ byte_limit
+  pub details_begin : Few p → from ≡ p.read - header_rows → header_rows ≤ p.read → FitsFrom lines piece at
       → DetailsTo before from lines at
-  details_begin few is some within fits =
+  details_begin few is some fits =
       let r : header_rows + from ≡ p.read = omega arith in
-      rw (r, le-ltb from from (omega arith)) (rows-begin p lines piece at before few within fits)
+      rw (r, le-ltb from from (omega arith)) (rows-begin p lines piece at before few fits)
 
   module _ (parts : Parts) (k n e : ℕ) (inv : DetailsTo parts k n e) (more : k < p.due) (after : Parts) where
     inv_on : RowsRan p lines piece at before (rows_to p (header_rows + k) n e false) parts
@@ -176,4 +175,4 @@ module _ (p : Progress) (lines : ℕ) (piece : Bytes) (at : ℕ) (before : Parts
       details_again h =
           let c : header_rows + (k + t.rows) ≡ header_rows + k + t.rows = omega arith in
           rw (c, ← all_same from k p.due t.rows h more)
-          (rows_more p lines piece at before (header_rows + k) n e parts inv_on (eqb (k + t.rows) p.due) t after (omega (arith, D.few)) took)
+          (rows_more p lines piece at before (with_read p (header_rows + k)) n e parts inv_on (eqb (k + t.rows) p.due) t after (omega (arith, D.few)) took)

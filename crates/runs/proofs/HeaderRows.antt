@@ -33,8 +33,9 @@ use Rattle.records.specs.declared.Progress.{Progress}
 use Rattle.records.specs.declared.Parts.{Parts}
 use Rattle.records.specs.Answer.{rows_of, header_says, one_more}
 use Rattle.records.proofs.Steps.{due-two, due-three, due-four, due-thirty}
+use Rattle.runs.specs.declared.Passed.{Passed}
 use Rattle.runs.specs.declared.rows.Taken.{Taken}
-use Rattle.runs.specs.Run.{taken_rows, with_read, HeaderRead, HeaderTaken, rows_to, RowsRan}
+use Rattle.runs.specs.Run.{went_by, taken_rows, with_read, HeaderRead, HeaderTaken, RowsRan}
 use Rattle.runs.proofs.LineMore.{line_at, empty-step, rows_more}
 
 -- ---- THE KIND OF ITS LINE
@@ -145,11 +146,11 @@ module _ (p : Progress) (piece : Bytes) (at : ℕ) (before : Parts) where
 
 -- ---- HEADER ROWS
 
-module _ (p : Progress) (lines : ℕ) (piece : Bytes) (at : ℕ) (before : Parts) (k n e : ℕ) (parts : Parts)
-    (inv : RowsRan p lines piece at before (rows_to p k n e false) parts) (q : Progress) (is : q ≡ with_read p k) (after : Parts) where
-  pub headers_stop : HeaderTaken q piece e parts None after → RowsRan p lines piece at before (rows_to p k n e false) after
+module _ (p : Progress) (lines : ℕ) (piece : Bytes) (at : ℕ) (before : Parts) (r : Passed Progress) (parts : Parts)
+    (inv : RowsRan p lines piece at before (went_by r.unit r.lines r.at) parts) (after : Parts) where
+  pub headers_stop : HeaderTaken r.unit piece r.at parts None after → RowsRan p lines piece at before (went_by r.unit r.lines r.at) after
   headers_stop h = rw h inv
 
-  pub headers_again : (t : Taken) → HeaderTaken q piece e parts (Some t) after → k < header_rows
-      → RowsRan p lines piece at before (rows_to p (k + t.rows) (n + 1) (e + t.size) false) after
-  headers_again t h few = rows_more p lines piece at before k n e parts inv false t after (omega (arith, h.0)) (rw is at h.1)
+  pub headers_again : (t : Taken) → HeaderTaken r.unit piece r.at parts (Some t) after → r.unit.read < header_rows
+      → RowsRan p lines piece at before (went_by (with_read r.unit (r.unit.read + t.rows)) (r.lines + 1) (r.at + t.size)) after
+  headers_again t h few = rows_more p lines piece at before r.unit r.lines r.at parts inv false t after (omega (arith, h.0)) h.1

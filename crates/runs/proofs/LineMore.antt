@@ -1,19 +1,19 @@
 -- A line more behind some bytes of a piece, as a step of the scan; and the rows of a record, one line after the other.
 -- Assumes nothing.
-use mathlib.Core.Path.{◌≡◌, ap, ◌∙◌}
+use mathlib.Core.Path.{◌≡◌, sym, ap, ◌∙◌}
 use mathlib.Core.List.{[], ◌∷◌, ◌++◌}
-use mathlib.Core.Bool.{Bool, false}
+use mathlib.Core.Bool.{Bool, true, false}
 use Prim.Native.Nat.{ℕ, suc, ◌+◌, ◌-◌, ◌<◌, ◌≤◌}
 use native.Mathlib.Numerals.{add-one}
 use native.Mathlib.Omega.{arith}
 use lib.ListN.{length}
 use Rattle.text.specs.Byte.{Bytes}
+use Rattle.text.proofs.Truth.{apart}
 use Rattle.lines.specs.Line.{LF, kind_of, ended_line}
 use Rattle.lines.specs.End.{between, LineEnd, LineAt, EmptyAt}
 use Rattle.lines.proofs.Ends.{between-add, line-between}
 use Rattle.plain.specs.Rows.{Rules, header_rows, max_details, rules_of}
 use Rattle.plain.specs.Loader.{OpenUnit, takes_rows, Step, Scan, scan, step_kind, step_line, scan_to, scan_events}
-use Rattle.plain.specs.Call.{byte_limit}
 use Rattle.plain.proofs.LineScan.{line-scan-to, line-scan-events}
 use Rattle.plain.proofs.Pieces.{scan_to-append, scan_events-append}
 use Rattle.records.specs.declared.Progress.{Progress}
@@ -21,7 +21,7 @@ use Rattle.records.specs.declared.Parts.{Parts}
 use Rattle.records.specs.Answer.{rows_of, Few}
 use Rattle.runs.specs.declared.Passed.{Passed}
 use Rattle.runs.specs.declared.rows.Taken.{Taken}
-use Rattle.runs.specs.Run.{with_read, rows_to, Took, RowsRan}
+use Rattle.runs.specs.Run.{went_by, FitsFrom, with_read, Took, RowsRan}
 
 -- ---- A LINE
 
@@ -61,14 +61,13 @@ module _ (R : Rules) (from : Scan) (piece : Bytes) (at e size : ℕ) (behind : a
 
 -- ---- ROWS
 
-pub rows-begin : (p : Progress) (lines : ℕ) (piece : Bytes) (at : ℕ) (parts : Parts) → Few p → at ≤ length piece
-    → lines + (length piece - at) ≤ byte_limit → RowsRan p lines piece at parts (rows_to p p.read lines at false) parts
+pub rows-begin : (p : Progress) (lines : ℕ) (piece : Bytes) (at : ℕ) (parts : Parts) → Few p → FitsFrom lines piece at
+    → RowsRan p lines piece at parts (went_by p lines at) parts
 unfolding scan_to scan_events
-rows-begin p lines piece at parts few within fits =
+rows-begin p lines piece at parts few fits =
     let z : at - at ≡ 0 = omega arith in
     record {
       behind = omega arith;
-      within = within;
       few = few;
       fits = fits;
       reaches = λ reg first. rw z;
@@ -76,16 +75,15 @@ rows-begin p lines piece at parts few within fits =
     }
 
 -- a line more
-pub rows_more : (p : Progress) (lines : ℕ) (piece : Bytes) (at : ℕ) (before : Parts) (k n e : ℕ) (parts : Parts)
-    → RowsRan p lines piece at before (rows_to p k n e false) parts
-    → (all : Bool) (t : Taken) (after : Parts) → k + t.rows ≤ header_rows + max_details → Took all (with_read p k) piece e parts t after
-    → RowsRan p lines piece at before (rows_to p (k + t.rows) (n + 1) (e + t.size) all) after
-rows_more p lines piece at before k n e parts inv all t after few took =
+pub rows_more : (p : Progress) (lines : ℕ) (piece : Bytes) (at : ℕ) (before : Parts) (u : Progress) (n e : ℕ) (parts : Parts)
+    → RowsRan p lines piece at before (went_by u n e) parts
+    → (all : Bool) (t : Taken) (after : Parts) → u.read + t.rows ≤ header_rows + max_details → Took all u piece e parts t after
+    → RowsRan p lines piece at before (record { unit = with_read u (u.read + t.rows); lines = n + 1; at = e + t.size; all = all }) after
+rows_more p lines piece at before u n e parts inv all t after few took =
     record {
       behind = omega (arith, inv.behind);
-      within = took.line.within;
       few = few;
-      fits = omega (arith, inv.fits, took.line.within, took.line.some);
+      fits = record { within = took.line.within; fits = omega (arith, inv.fits.fits, took.line.within, took.line.some) };
       reaches = λ reg first.
           rw (add-one n)
           (more-to (rules_of reg) (from first) piece at e t.size inv.behind took.line n (held first) (inv.reaches reg first) _ (took.step reg first (suc n)));
@@ -98,7 +96,16 @@ rows_more p lines piece at before k n e parts inv all t after few took =
     from first = scan [] lines (takes_rows first (rows_of p before))
 
     held : (first : ℕ) → OpenUnit
-    held first = takes_rows first (rows_of (with_read p k) parts)
+    held first = takes_rows first (rows_of u parts)
+
+-- none of them is the day's last
+pub rows_left : (p : Progress) (lines : ℕ) (piece : Bytes) (at : ℕ) (before : Parts) (r : Passed Progress) (parts : Parts)
+    → RowsRan p lines piece at before (went_by r.unit r.lines r.at) parts → r.all ≡ false → RowsRan p lines piece at before r parts
+rows_left p lines piece at before r parts ran more = go r.all more
+  where
+    go : (b : Bool) → b ≡ false → RowsRan p lines piece at before (record { unit = r.unit; lines = r.lines; at = r.at; all = b }) parts
+    go true e = absurd (apart (sym e))
+    go false e = ran
 
 -- rows, and then others behind them
 pub rows_then : (p : Progress) (lines : ℕ) (piece : Bytes) (at : ℕ) (before : Parts) (r : Passed Progress) (parts : Parts)
@@ -107,7 +114,6 @@ pub rows_then : (p : Progress) (lines : ℕ) (piece : Bytes) (at : ℕ) (before 
 rows_then p lines piece at before r parts a more q after b =
     record {
       behind = omega (arith, a.behind, b.behind);
-      within = b.within;
       few = b.few;
       fits = b.fits;
       reaches = λ reg first. rw (part, scan_to-append (rules_of reg) (from first) (between at r.at piece) (between r.at q.at piece), to reg first) (b.reaches reg first);

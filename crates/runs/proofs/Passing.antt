@@ -19,8 +19,8 @@ module _ (unit : KeptUnit) (lines held : ℕ) (piece : Bytes) (at : ℕ) (before
       rw (z, h, e)
       (record {
         behind = ran.behind;
-        within = ran.within;
-        fits = ran.fits;
+        within = ran.fits.within;
+        fits = ran.fits.fits;
         reaches = λ reg kept. ran.reaches reg first;
         tells = λ reg kept. ran.tells reg first;
       })
@@ -30,8 +30,8 @@ module _ (unit : KeptUnit) (lines held : ℕ) (piece : Bytes) (at : ℕ) (before
       rw (z, h)
       (record {
         behind = ran.behind;
-        within = ran.within;
-        fits = ran.fits;
+        within = ran.fits.within;
+        fits = ran.fits.fits;
         reaches = λ reg kept. rw ran.skipped (ran.reaches reg);
         tells = λ reg kept. rw ran.skipped (ran.quiet reg);
       })

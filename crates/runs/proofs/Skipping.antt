@@ -2,22 +2,23 @@
 -- Assumes nothing.
 use mathlib.Core.Path.{◌≡◌, refl, sym, ◌∙◌}
 use mathlib.Core.List.{[]}
-use mathlib.Core.Bool.{Bool, true}
-use Prim.Native.Nat.{ℕ, suc, ◌+◌, ◌-◌, ◌<◌, ◌≤◌}
+use mathlib.Core.Bool.{Bool, true, not}
+use Prim.Native.Nat.{ℕ, suc, ◌+◌, ◌-◌, ◌<◌}
 use native.Mathlib.Numerals.{add-one}
 use native.Mathlib.Omega.{arith}
 use lib.ListN.{length}
+use denote.Enum.Bare.{sameb}
 use Rattle.text.specs.Byte.{Bytes}
 use Rattle.text.proofs.Truth.{apart}
 use Rattle.lines.specs.Line.{Line, ended_line, drop_cr, kind_of}
 use Rattle.lines.specs.End.{between, LineEnd, LineAt}
+use Rattle.lines.specs.contracts.line.Kind.{the_type}
 use Rattle.lines.specs.declared.line.Kind.{Kind}
 use Rattle.lines.specs.declared.line.Kind.TheVariants.{Empty, Opener, Detail, Other}
 use Rattle.plain.specs.Rows.{rules_of}
 use Rattle.plain.specs.Loader.{skips, scan, step_kind, step_line, scan_to, scan_events}
-use Rattle.plain.specs.Call.{byte_limit}
 use Rattle.units.specs.declared.Unit.TheVariants.{Skips}
-use Rattle.runs.specs.Run.{went_by, is_skipped, SkipsTo}
+use Rattle.runs.specs.Run.{went_by, FitsFrom, is_skipped, SkipsTo}
 use Rattle.runs.proofs.LineMore.{line_at, more-to, more-events}
 
 -- ---- ONE LINE
@@ -34,21 +35,20 @@ skip_step : (reg raw : Bytes) (n : ℕ) → is_skipped (kind_of (drop_cr raw)) �
 unfolding step_line ended_line
 skip_step reg raw n h = skip-kind reg n _ (kind_of (drop_cr raw)) h
 
--- any kind but an opener's
-pub skips_others : (k : Kind) → (k ≡ Opener → ⊥) → is_skipped k ≡ true
-skips_others Empty h = refl
-skips_others Opener h = absurd (h refl)
-skips_others Detail h = refl
-skips_others Other h = refl
+pub not-opener : (k : Kind) → not (sameb the_type k Opener) ≡ is_skipped k
+not-opener Empty = refl
+not-opener Opener = refl
+not-opener Detail = refl
+not-opener Other = refl
 
 -- ---- LINES
 
-pub skips_begin : (lines : ℕ) (piece : Bytes) (at : ℕ) → at ≤ length piece → lines + (length piece - at) ≤ byte_limit
+pub skips_begin : (lines : ℕ) (piece : Bytes) (at : ℕ) → FitsFrom lines piece at
     → SkipsTo lines piece at (went_by Skips lines at)
 unfolding scan_to scan_events
-skips_begin lines piece at within fits =
+skips_begin lines piece at fits =
     let z : at - at ≡ 0 = omega arith in
-    record { skipped = refl; behind = omega arith; within = within; fits = fits; reaches = λ reg. rw z; quiet = λ reg. rw z }
+    record { skipped = refl; behind = omega arith; fits = fits; reaches = λ reg. rw z; quiet = λ reg. rw z }
 
 pub skips-again : (lines : ℕ) (piece : Bytes) (at n e : ℕ) → SkipsTo lines piece at (went_by Skips n e) → (end : ℕ) → LineEnd piece e end
     → end < length piece → (r : Bool) → r ≡ is_skipped (kind_of (drop_cr (between e end piece))) → r ≡ true
@@ -60,8 +60,7 @@ skips-again lines piece at n e inv end E inside r is t =
     record {
       skipped = refl;
       behind = omega (arith, inv.behind, E.none.behind);
-      within = omega arith;
-      fits = omega (arith, inv.fits, E.none.behind);
+      fits = record { within = omega arith; fits = omega (arith, inv.fits.fits, E.none.behind) };
       reaches = λ reg.
           rw (← to, add-one n)
           (more-to (rules_of reg) (scan [] lines skips) piece at e (end - e + 1) inv.behind line n skips (inv.reaches reg) (record { unit = skips; events = [] }) (rw raw (step reg)));

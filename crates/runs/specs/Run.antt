@@ -28,6 +28,11 @@ use Rattle.runs.specs.declared.Passed.{Passed}
 abbrev pub went_by : {T : Type 0} → T → ℕ → ℕ → Passed T
 went_by unit lines at = record { unit = unit; lines = lines; at = at; all = false }
 
+-- so many lines end before a place of the piece, and the bytes from there on can't end too many
+pub record FitsFrom (lines : ℕ) (piece : Bytes) (at : ℕ) : Type 0 where
+  pub within : at ≤ length piece
+  pub fits : lines + (length piece - at) ≤ byte_limit
+
 -- ---- ONE LINE OF A RECORD
 
 abbrev pub taken_rows : ℕ → ℕ → Taken
@@ -84,9 +89,8 @@ rows_to p read lines at all = record { unit = with_read p read; lines = lines; a
 -- rows read from a place on, with what they leave of the record; nothing is said but what the registry checks say, if the day's last row is in
 pub record RowsRan (p : Progress) (lines : ℕ) (piece : Bytes) (at : ℕ) (before : Parts) (r : Passed Progress) (after : Parts) : Type 0 where
   pub behind : at ≤ r.at
-  pub within : r.at ≤ length piece
   pub few : Few r.unit
-  pub fits : r.lines + (length piece - r.at) ≤ byte_limit
+  pub fits : FitsFrom r.lines piece r.at
   pub reaches : (reg : Bytes) (first : ℕ)
       → scan_to (rules_of reg) (scan [] lines (takes_rows first (rows_of p before))) (between at r.at piece)
       ≡ scan [] r.lines (judged_if r.all reg r.lines (takes_rows first (rows_of r.unit after))).unit
@@ -107,8 +111,7 @@ is_skipped Other = true
 pub record SkipsTo (lines : ℕ) (piece : Bytes) (at : ℕ) (r : Passed KeptUnit) : Type 0 where
   pub skipped : r ≡ went_by Skips r.lines r.at
   pub behind : at ≤ r.at
-  pub within : r.at ≤ length piece
-  pub fits : r.lines + (length piece - r.at) ≤ byte_limit
+  pub fits : FitsFrom r.lines piece r.at
   pub reaches : (reg : Bytes) → scan_to (rules_of reg) (scan [] lines skips) (between at r.at piece) ≡ scan [] r.lines skips
   pub quiet : (reg : Bytes) → scan_events (rules_of reg) (scan [] lines skips) (between at r.at piece) ≡ []
 

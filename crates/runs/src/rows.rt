@@ -1,12 +1,11 @@
 // The rows of a record that stand whole in the piece, and empty lines between them: header rows, and detail rows, which are read without a look for
 // their end.
-ghost use Rattle.std.specs.Prelude.{◌≡◌, false, ◌+◌, ◌-◌, ◌<◌, ◌≤◌, length};
+ghost use Rattle.std.specs.Prelude.{◌≡◌, false, ◌<◌, ◌≤◌, length};
 ghost use Rattle.plain.specs.Rows.{header_rows, max_details};
-ghost use Rattle.plain.specs.Call.{byte_limit};
 ghost use Rattle.records.specs.Answer.{Few};
-ghost use Rattle.runs.specs.Run.{taken_rows, with_read, rows_to, HeaderRead, HeaderTaken, DetailTaken, RowsRan};
+ghost use Rattle.runs.specs.Run.{taken_rows, rows_to, FitsFrom, HeaderRead, HeaderTaken, DetailTaken, RowsRan};
 
-use crate::Passed;
+use crate::{Passed, gone_by};
 use direct::read_direct;
 use lines::end::{empty_line, line_end};
 use lines::line::Line;
@@ -24,24 +23,6 @@ fn empty(size: usize) -> Taken
     ensures { result ≡ taken_rows size 0 }
 {
     Taken { size, rows: 0 }
-}
-
-// With so many rows read behind row one.
-fn with_read(p: Progress, read: u32) -> Progress
-    ensures { result ≡ with_read p read }
-{
-    Progress { read, ..p }
-}
-
-fn rows_read(p: Progress, read: u32, lines: u32, at: usize, all: bool) -> Passed<Progress>
-    ensures { result ≡ rows_to p read lines at all }
-{
-    Passed {
-        unit: with_read(p, read),
-        lines,
-        at,
-        all,
-    }
 }
 
 // ---- HEADER ROWS
@@ -83,21 +64,19 @@ fn read_headers(
     at: usize,
     parts: &mut Parts,
 ) -> Passed<Progress>
-    requires { Few p × (at ≤ length piece.now) × (lines + (length piece.now - at) ≤ byte_limit) }
+    requires { Few p × FitsFrom lines piece.now at }
     ensures { RowsRan p lines piece.now at parts.old result parts.new × (result.all ≡ false) }
 {
-    let mut k = p.read;
-    let mut n = lines;
-    let mut e = at;
-    while k < HEADER_ROWS {
-        let Some(t) = take_header(with_read(p, k), piece, e, parts) else {
-            return rows_read(p, k, n, e, false);
+    let mut r = gone_by(p, lines, at);
+    while r.unit.read < HEADER_ROWS {
+        let Some(t) = take_header(r.unit, piece, r.at, parts) else {
+            return r;
         };
-        e += t.size;
-        n += 1;
-        k += t.rows;
+        r.unit.read += t.rows;
+        r.lines += 1;
+        r.at += t.size;
     }
-    rows_read(p, k, n, e, false)
+    r
 }
 
 // ---- DETAIL ROWS
@@ -118,7 +97,20 @@ fn take_detail(parts: &mut Parts, piece: &[u8], at: usize, k: u32) -> Option<Tak
     })
 }
 
+fn rows_read(p: Progress, read: u32, lines: u32, at: usize, all: bool) -> Passed<Progress>
+    ensures { result ≡ rows_to p read lines at all }
+{
+    Passed {
+        unit: Progress { read, ..p },
+        lines,
+        at,
+        all,
+    }
+}
+
 // Detail rows from the place where a line begins, as many as read directly: no more than the day has, nor than a cell has room for.
+// Tried: one value that is updated, as in `read_headers`. The loop that the compiler makes of it puts a word together from halves in each row, and
+// large loads are 1 to 3 percent slower.
 fn read_details(
     p: Progress,
     lines: u32,
@@ -126,7 +118,7 @@ fn read_details(
     at: usize,
     parts: &mut Parts,
 ) -> Passed<Progress>
-    requires { Few p × (header_rows ≤ p.read) × (at ≤ length piece.now) × (lines + (length piece.now - at) ≤ byte_limit) }
+    requires { Few p × (header_rows ≤ p.read) × FitsFrom lines piece.now at }
     ensures { RowsRan p lines piece.now at parts.old result parts.new }
 {
     let stop = p.due.min(MAX_DETAILS);
@@ -153,7 +145,7 @@ pub fn record_rows(
     at: usize,
     parts: &mut Parts,
 ) -> Passed<Progress>
-    requires { Few p × (at ≤ length piece.now) × (lines + (length piece.now - at) ≤ byte_limit) }
+    requires { Few p × FitsFrom lines piece.now at }
     ensures { RowsRan p lines piece.now at parts.old result parts.new }
 {
     let headers = read_headers(p, lines, piece, at, parts);

@@ -1,8 +1,7 @@
 // Lines that a unit skips: all up to the next opener. They go by without a step of the unit for each.
-ghost use Rattle.std.specs.Prelude.{◌≡◌, ◌+◌, ◌-◌, ◌≤◌, length};
+ghost use Rattle.std.specs.Prelude.{◌≡◌};
 ghost use Rattle.lines.specs.Line.{drop_cr, kind_of};
-ghost use Rattle.plain.specs.Call.{byte_limit};
-ghost use Rattle.runs.specs.Run.{is_skipped, SkipsTo};
+ghost use Rattle.runs.specs.Run.{is_skipped, FitsFrom, SkipsTo};
 
 use crate::{Passed, gone_by};
 use lines::end::line_end;
@@ -13,15 +12,12 @@ use units::Unit;
 fn is_skipped(raw: &[u8]) -> bool
     ensures { result ≡ is_skipped (kind_of (drop_cr raw.now)) }
 {
-    match kind_of(without_cr(raw)) {
-        Kind::Opener => false,
-        _ => true,
-    }
+    kind_of(without_cr(raw)) != Kind::Opener
 }
 
 // Lines from the place where one begins, up to an opener, or to one that does not end in the piece.
 pub fn skip_lines(lines: u32, piece: &[u8], at: usize) -> Passed<Unit>
-    requires { (at ≤ length piece.now) × (lines + (length piece.now - at) ≤ byte_limit) }
+    requires { FitsFrom lines piece.now at }
     ensures { SkipsTo lines piece.now at result }
 {
     let mut n = lines;

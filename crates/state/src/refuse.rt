@@ -27,24 +27,16 @@ fn details_in(unit: Unit) -> u32
     }
 }
 
-// Whether so many bytes of a line are held that they aren't all there.
-fn overflows(scan: &Scan) -> bool
-    ensures overflows { result ≡ ltb kept_limit scan.now.held }
+// 1: more than a state can hold. It takes the scan by itself: a proof knows how long a parameter's own array is, and nothing of `state.scan.kept`, here or
+// in the calls. So this says it to `admit`, and `admit` to them.
+fn is_overfull(scan: &Scan, taken: usize) -> bool
+    ensures overfull { result ≡ overfull (view_of (record { scan = scan.now; taken = taken })) }
     ensures kept { length scan.now.kept ≡ kept_limit }
 {
-    scan.kept.len() < scan.held
-}
-
-// 1: more than a state can hold.
-fn is_overfull(state: &State) -> bool
-    ensures overfull { result ≡ overfull (view_of state.now) }
-    ensures kept { length state.now.scan.kept ≡ kept_limit }
-{
-    let scan = &state.scan;
-    overflows(scan)
-        | (BYTE_LIMIT < state.taken)
+    (scan.kept.len() < scan.held)
+        | (BYTE_LIMIT < taken)
         | (MAX_DETAILS < details_in(scan.unit))
-        | (state.taken < scan.lines as usize)
+        | (taken < scan.lines as usize)
 }
 
 // Why a call is refused, 1 to 5 in this order; or its registry's index. A call has a table of `size` words, a report with room for so many entries, and a
@@ -60,7 +52,7 @@ pub fn admit<'a>(
     ensures index { IfOk result (λ i. i ≡ registry.now) }
     ensures kept { length state.now.scan.kept ≡ kept_limit }
 {
-    require(!is_overfull(state), Refusal::BadState)?;
+    require(!is_overfull(&state.scan, state.taken), Refusal::BadState)?;
     let index = Index::of(registry).ok_or(Refusal::BadRegistry)?;
     for_table(&index, size)?;
     require(2 + n / 2 <= room, Refusal::ShortReport)?;

@@ -93,6 +93,7 @@ fn channel_in(word: u32) -> Channel
     }
 }
 
+// Which unit it is, is told by a number: the layout is C's.
 #[tactic(auto, unfolding(crate::specs::Layout::unit_from))]
 fn unit_in(words: &[u32; UNIT_SIZE]) -> Unit
     ensures { result ≡ unit_from words.now }

@@ -114,6 +114,35 @@ unfolding cut first_field after_field
 cut-more [] h = absurd (omega (arith, h))
 cut-more (b ∷ s) h = more_by (eqb b comma) b s (cut-more s) h
 
+-- behind the first field: nothing, where the line ends with it, or the fields of what stands behind its comma
+whole_by : (t : Bool) (b : ℕ) (s : Bytes) → (length s ≤ length (first_field s) → cut s ≡ first_field s ∷ []) → suc (length s) ≤ length (cond t [] (b ∷ first_field s))
+    → cond t ([] ∷ cut s) (in_front b (cut s)) ≡ cond t [] (b ∷ first_field s) ∷ []
+whole_by true b s ih h = absurd (omega (arith, h))
+whole_by false b s ih h = ap (in_front b) (ih (omega (arith, h)))
+
+pub cut_whole : (s : Bytes) → length s ≤ length (first_field s) → cut s ≡ first_field s ∷ []
+unfolding cut first_field
+cut_whole [] h = refl
+cut_whole (b ∷ s) h = whole_by (eqb b comma) b s (cut_whole s) h
+
+behind_by : (t : Bool) (b : ℕ) (s : Bytes) → (length (first_field s) < length s → cut s ≡ first_field s ∷ cut (after_field s)) → length (cond t [] (b ∷ first_field s)) < suc (length s)
+    → cond t ([] ∷ cut s) (in_front b (cut s)) ≡ cond t [] (b ∷ first_field s) ∷ cut (cond t s (after_field s))
+behind_by true b s ih h = refl
+behind_by false b s ih h = ap (in_front b) (ih (omega (arith, h)))
+
+pub cut_behind : (s : Bytes) → length (first_field s) < length s → cut s ≡ first_field s ∷ cut (after_field s)
+unfolding cut first_field after_field
+cut_behind [] h = absurd (omega (arith, h))
+cut_behind (b ∷ s) h = behind_by (eqb b comma) b s (cut_behind s) h
+
+-- the first of the fields that are left is taken
+module _ (s f : Bytes) (fs : List Bytes) (left : fs ≡ cut s) (first : f ≡ first_field s) where
+  pub taken_last : length f ≡ length s → fs ≡ f ∷ []
+  taken_last e = left ∙ rw first (cut_whole s (omega (arith, e, ap length first)))
+
+  pub taken_first : (length f ≡ length s → ⊥) → (a : Bytes) → a ≡ after_field s → fs ≡ f ∷ cut a
+  taken_first e a after = left ∙ rw (first, after) (cut_behind s (omega (arith, field-within s, e, ap length first)))
+
 head-by : (t : Bool) (b : ℕ) (s : Bytes) (fs : List Bytes) → cut s ≡ first_field s ∷ fs
     → (gs : List Bytes) × (cond t ([] ∷ cut s) (in_front b (cut s)) ≡ cond t [] (b ∷ first_field s) ∷ gs)
 head-by true b s fs h = (cut s, refl)

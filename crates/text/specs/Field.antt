@@ -1,6 +1,7 @@
 -- Fields: a line is cut at its commas, and nothing is trimmed. Document 01, "Rows".
 -- Assumes nothing.
-use Rattle.std.specs.Prelude.{List, [], ◌∷◌, cond, ℕ, zero, suc, eqb}
+use denote.Ref.{Bor}
+use Rattle.std.specs.Prelude.{Option, Some, None, List, [], ◌∷◌, cond, ℕ, zero, suc, eqb}
 use Prim.Native.Char.{code}
 use Rattle.text.specs.Byte.{Bytes}
 
@@ -30,3 +31,8 @@ after_field (b ∷ s) = cond (eqb b comma) s (after_field s)
 abbrev pub field_at : ℕ → Bytes → Bytes
 field_at zero s = first_field s
 field_at (suc k) s = field_at k (after_field s)
+
+-- the fields that are left of a line, by what stands behind the last one that was taken and its comma
+abbrev pub left_in : Option (Bor Bytes) → List Bytes
+left_in None = []
+left_in (Some rest) = cut rest.now

@@ -3,6 +3,7 @@
 #![tactic(auto)]
 
 pub mod bytes;
+pub mod cutting;
 pub mod fields;
 pub mod names;
 pub mod numbers;

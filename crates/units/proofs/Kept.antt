@@ -4,18 +4,26 @@ use mathlib.Core.Path.{◌≡◌, refl}
 use mathlib.Core.Logic.{◌⊎◌, inl, inr}
 use mathlib.Core.List.{List, ◌++◌, append-nil}
 use Prim.Native.Nat.{ℕ}
-use Rattle.std.specs.Prelude.{None as Nothing}
+use Rattle.std.specs.Prelude.{None as Nothing, Result, Ok, Err}
+use Rattle.std.specs.Result.{MatchResult, IsOkAnd, IsErrAnd}
 use Rattle.text.specs.Byte.{Bytes}
 use Rattle.lines.specs.Line.{Line, kind_of}
 use Rattle.lines.specs.declared.line.Kind.{Kind}
 use Rattle.lines.specs.declared.line.Kind.TheVariants.{Empty, Opener, Detail, Other}
 use Rattle.cell.specs.Layout.{Words}
+use Rattle.report.specs.Outcome.{fault_of}
 use Rattle.report.specs.declared.Entry.{Entry}
+use Rattle.report.specs.declared.verdict.Fault.{Fault}
+use Rattle.report.specs.declared.verdict.Verdict.{Verdict}
 use Rattle.plain.specs.Rows.{Record, Rows, Rules, first_row, next_row, rules_of}
 use Rattle.plain.specs.Table.{load_all}
 use Rattle.plain.specs.Loader.{OpenUnit, no_unit, takes_rows, waits, skips, close, settle, entries_of, loads_of, step_kind, step_line}
 use Rattle.plain.proofs.Pieces.{entries-append, loads-append}
+use Rattle.records.specs.Answer.{header_says, checked_says, row_says}
+use Rattle.records.specs.declared.After.{After}
+use Rattle.records.specs.declared.After.TheVariants.{GoesOn, Complete}
 use Rattle.records.specs.declared.Progress.{Progress}
+use Rattle.records.specs.declared.Ready.{Ready}
 use Rattle.records.specs.declared.Parts.{Parts}
 use Rattle.units.specs.declared.Unit.{Unit as KeptUnit}
 use Rattle.units.specs.declared.Unit.TheVariants.{None, Takes, Waits, Skips}
@@ -59,6 +67,21 @@ module _ (R : Rules) (n : ℕ) (l : Line) (u : OpenUnit) (kind : Kind) (is : kin
 pub quiet-reads : (u : OpenUnit) → Reads (quiet_step u) u (told Nothing)
 unfolding entries_of loads_of
 quiet-reads u = record { leaves = refl; entered = refl; none = refl }
+
+-- row one, and the registry checks, as a row says it
+pub says-begun : (one : Result Progress Verdict) (on : Result After Verdict) (row : Result After Fault)
+    → MatchResult one (λ p. IsOkAnd on (λ a. a ≡ GoesOn p)) (λ v. on ≡ Err v) → MatchResult on (λ a. row ≡ Ok a) (λ v. IsErrAnd row (λ f. f ≡ fault_of v))
+    → (day : ℕ) (r : Parts) → row_says row day r ≡ header_says one day r
+says-begun (Ok p) (Ok a) row h g day r = rw (g, h)
+says-begun (Ok p) (Err v) row h g day r = absurd h
+says-begun (Err v) on (Ok a) h g day r = absurd (rw h at g)
+says-begun (Err v) on (Err f) h g day r = rw (rw h at g)
+
+pub says-complete : (all : Result Ready Fault) (row : Result After Fault)
+    → MatchResult all (λ ready. IsOkAnd row (λ a. a ≡ Complete ready)) (λ f. row ≡ Err f) → (day : ℕ) (r : Parts) → row_says row day r ≡ checked_says all day r
+says-complete (Ok ready) (Ok a) h day r = rw h
+says-complete (Ok ready) (Err f) h day r = absurd h
+says-complete (Err f) row h day r = rw h
 
 -- what holds of a unit that takes no rows is left
 pub kept-reads : (reg : Bytes) (n : ℕ) (parts : Parts) (unit : KeptUnit) → ((first : ℕ) (p : Progress) → unit ≡ Takes first p → ⊥)

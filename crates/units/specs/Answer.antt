@@ -110,6 +110,6 @@ quietly unit = record { unit = unit; said = Nothing }
 
 -- ---- THE TABLE
 
--- the table has room for the registry's cells
+-- the table has room for the registry's cells; it ties two lent values, so no type says it
 abbrev pub HasRoom : Bytes → Words → Type 0
 HasRoom reg table = table_size reg ≤ length table

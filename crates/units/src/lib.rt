@@ -182,10 +182,8 @@ fn quiet(unit: Unit) -> Stepped
 fn open(n: u32, line: Line<'_>, parts: &mut Parts) -> Stepped
     ensures { Reads (settles n n (first_row (line_of line.entry))) (unit_of result.unit parts.new) (told result.said) }
 {
-    match row_one(line, parts) {
-        Err(verdict) => refused(n, Fault::from(verdict), n, 0),
-        Ok(p) => quiet(Unit::Takes(n, p)),
-    }
+    let row = row_one(line, parts).map(After::GoesOn).map_err(Fault::from);
+    settle(n, n, row, 0)
 }
 
 // Line n of the file is read, once the unit that it ends has ended. Tried: a match on the pair of kind and unit. The borrow checker has no rule for an arm
@@ -229,10 +227,8 @@ pub fn judged(unit: Unit, all: bool, n: u32, index: &Index<'_>, parts: &Parts) -
     let Unit::Takes(first, p) = unit else {
         return quiet(unit);
     };
-    match check(p, index, parts) {
-        Err(fault) => refused(first, fault, n, p.day),
-        Ok(ready) => quiet(Unit::Waits(first, n, ready)),
-    }
+    let row = check(p, index, parts).map(After::Complete);
+    settle(first, n, row, p.day)
 }
 
 // Line n of the file: the unit that it ends, and then the line itself.

@@ -7,6 +7,8 @@ use Prim.Native.Nat.{ℕ, ◌+◌, ◌-◌, ◌≤◌, ◌<◌}
 use native.Mathlib.Omega.{arith}
 use lib.Dec.{eqb, leb}
 use lib.ListN.{length, take, drop, get_or, length-drop, take-append-drop}
+use lib.Pointwise.{pointwise}
+use denote.Ref.{Bor}
 use lib.Seq.{drop-drop, length-take-le}
 use borrow.Author.Tests.{eq-eqb, eqb-true, leb-true, le-ltb}
 use Rattle.calendar.specs.Date.{is_date}
@@ -15,15 +17,17 @@ use Rattle.text.specs.Byte.{Bytes, ascii, is_digit, is_alnum, is_empty, every, e
 use Rattle.text.specs.Field.{cut}
 use Rattle.text.specs.Number.{number_from, leading, behind}
 use Rattle.text.specs.Identifier.{is_name, is_descriptor, is_duns, descriptor_size, duns_size}
-use Rattle.text.proofs.Truth.{and_left, and_right, and_each}
+use Rattle.text.proofs.Truth.{apart, and_left, and_right, and_each}
 use Rattle.text.proofs.Left.{left-cons, left-whole}
 use Rattle.text.proofs.Equal.{equals_path, equals_refl, starts_whole}
 use Rattle.text.proofs.Comma.{digits-no-comma, alnum_no_comma, cut_field, cut-alone}
 use Rattle.lines.specs.Line.{line_limit, cr_size, is_long}
-use Rattle.std.specs.Prelude.{Result, Ok, Err, Some}
-use Rattle.std.specs.Result.{result_ok}
-use Rattle.report.specs.declared.verdict.Verdict.{Verdict}
-use Rattle.report.specs.Outcome.{passed, require, says}
+use Rattle.std.specs.Prelude.{Option, None, Some}
+use Rattle.std.specs.Bool.{then_some}
+use Rattle.std.specs.Option.{MatchOption}
+use Rattle.std.proofs.lemmas.Slice.Eq.{strip_prefix_is}
+use Rattle.std.proofs.lemmas.Bool.Decides.{Decides-eqb}
+use Rattle.report.specs.Outcome.{passed, require}
 use Rattle.lines.specs.Row.{fields_of}
 use Rattle.report.specs.Verdict.{misfit}
 use Rattle.lines.specs.Answer.{line_with}
@@ -34,6 +38,7 @@ use Rattle.headers.specs.Three.{row_three}
 use Rattle.headers.specs.Four.{four_of, row_four}
 use Rattle.headers.specs.Thirty.{sender_name, rep_name, has_duns, ends_thirty, is_thirty, thirty_of, row_thirty}
 use Rattle.headers.specs.declared.time.Time.{Time}
+use Rattle.usual.specs.Answer.{UsualThirtySays}
 
 -- A LINE PUT TOGETHER from the left, when `rest` is what stands behind the part: its first bytes, a part that is not known, one that is, a byte.
 module _ (s : Bytes) {rest : Bytes} where
@@ -75,17 +80,19 @@ two_usual line cr r e h = rw (equals_path line usual (sym e ∙ h)) (usual_passe
 
 -- ---- ROW THREE
 
-pub three_usual : (line : Bytes) (p q : Bool) → p ≡ starts_with (ascii "00000003,") line → (d : Bytes) → d ≡ drop 9 line → q ≡ is_descriptor d → (p && q) ≡ true
-    → (cr : Bool) → passed tt ≡ row_three (line_with line cr)
+three_made : (line d : Bytes) → line ≡ ascii "00000003," ++ d → is_descriptor d ≡ true → (cr : Bool) → passed tt ≡ row_three (line_with line cr)
 unfolding row_three is_name every
-three_usual line p q ep d ed eq h cr =
-    let named : is_descriptor (drop 9 line) ≡ true = rw (← ed) (sym eq ∙ and_right p q h) in
-    let t = and_each (leb 1 (length (drop 9 line))) (leb (length (drop 9 line)) descriptor_size ∷ every is_alnum (drop 9 line) ∷ []) named in
-    let made : line ≡ ascii "00000003," ++ drop 9 line = first line _ (sym ep ∙ and_left p q h) refl in
-    let fields : cut (ascii "00000003," ++ drop 9 line) ≡ ascii "00000003" ∷ drop 9 line ∷ [] =
-    cut_field (ascii "00000003") _ _ refl (cut-alone (drop 9 line) (alnum_no_comma (drop 9 line) (t 2))) in
-    let short : length line < line_limit = omega (arith, leb-true (length (drop 9 line)) descriptor_size (t 1), length-drop 9 line) in
-    sym (rw (usual_fields line (ascii "00000003") (drop 9 line ∷ []) cr short (ap cut made ∙ fields), named))
+three_made line d made named cr =
+    let t = and_each (leb 1 (length d)) (leb (length d) descriptor_size ∷ every is_alnum d ∷ []) named in
+    let fields : cut (ascii "00000003," ++ d) ≡ ascii "00000003" ∷ d ∷ [] = cut_field (ascii "00000003") _ _ refl (cut-alone d (alnum_no_comma d (t 2))) in
+    let short : length line < line_limit = rw made (omega (arith, leb-true (length d) descriptor_size (t 1))) in
+    sym (rw (usual_fields line (ascii "00000003") (d ∷ []) cr short (ap cut made ∙ fields), named))
+
+pub three_usual : (line : Bytes) (o : Option (Bor Bytes))
+    → MatchOption o (pointwise eqb (take 9 line) (ascii "00000003,") ≡ false) (λ d. (pointwise eqb (take 9 line) (ascii "00000003,") ≡ true) × (d.now ≡ drop 9 line) × (length d.now + 9 ≡ length line))
+    → (q : Bool) → MatchOption o (q ≡ false) (λ d. q ≡ is_descriptor d.now) → q ≡ true → (cr : Bool) → passed tt ≡ row_three (line_with line cr)
+three_usual line None m q e h cr = absurd (apart (sym e ∙ h))
+three_usual line (Some d) m q e h cr = three_made line d.now (strip_prefix_is Decides-eqb line (ascii "00000003,") (Some d) m) (sym e ∙ h) cr
 
 -- ---- ROW FOUR
 
@@ -170,8 +177,8 @@ module _ (line : Bytes) (room : 85 ≤ length line) (p q u v w x y : Bool)
     (ev : v ≡ every is_digit (take 9 (drop 52 line)))
     (ew : w ≡ equals (take 24 (drop 61 line)) (ascii ",Receiver=183529049,REP="))
     (ex : x ≡ is_empty (take (length line - 85) (drop 85 line))) (ey : y ≡ is_duns (take (length line - 85) (drop 85 line))) where
-  pub thirty_usual : (p && q && u && v && w && (x || y)) ≡ true → (cr : Bool) → passed (take 9 (drop 52 line)) ≡ row_thirty (line_with line cr)
-  thirty_usual h cr =
+  shaped-passes : (p && q && u && v && w && (x || y)) ≡ true → (cr : Bool) → passed (take 9 (drop 52 line)) ≡ row_thirty (line_with line cr)
+  shaped-passes h cr =
       let t = and_each p (q ∷ u ∷ v ∷ w ∷ (x || y) ∷ []) h in
       let end : Rep (drop 85 line) = rep_right (drop 85 line) (rw (← left-whole line 85, ← ex, ← ey) (t 5)) in
       thirty-made line (take 9 (drop 35 line)) (take 9 (drop 52 line)) (drop 85 line)
@@ -184,3 +191,11 @@ module _ (line : Bytes) (room : 85 ≤ length line) (p q u v w x y : Bool)
       (length-take-le 9 (drop 35 line) (simp length-drop (omega arith)))
       (length-take-le 9 (drop 52 line) (simp length-drop (omega arith)))
       (omega (arith, end.short, length-drop 85 line))
+
+  pub thirty_usual : (sender : Bor Bytes) → sender.now ≡ take 9 (drop 52 line) → (cr : Bool)
+      → UsualThirtySays (then_some (p && q && u && v && w && (x || y)) sender) (line_with line cr)
+  thirty_usual sender es cr = go (p && q && u && v && w && (x || y)) refl
+    where
+      go : (t : Bool) → (p && q && u && v && w && (x || y)) ≡ t → UsualThirtySays (then_some t sender) (line_with line cr)
+      go true h = rw es (shaped-passes h cr)
+      go false h = tt

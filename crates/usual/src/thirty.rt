@@ -42,7 +42,7 @@ fn usual_thirty(line: &[u8]) -> Option<&[u8]>
         & all_digits(sender)
         & same(&line[SENDER_END..REP_AT], &USUAL_TAIL)
         & (is_empty(rep) | is_duns(rep));
-    if shaped { Some(sender) } else { None }
+    shaped.then_some(sender)
 }
 
 pub fn read_thirty<'a>(line: Line<'a>) -> Result<&'a [u8], Verdict>

@@ -6,20 +6,16 @@ ghost use Rattle.headers.specs.Three.{row_three};
 
 use lines::line::Line;
 use report::verdict::Verdict;
-use text::bytes::begins;
-use text::fields::behind;
 use text::names::is_descriptor;
 
 // Row three as nearly every file has it: its code, and all behind the comma is the descriptor.
 const USUAL_HEAD: [u8; 9] = *b"00000003,";
 
-const DESCRIPTOR_AT: usize = 9;
-
 // Whether a line is a usual row three, which passes without a walk along its fields.
 fn usual_three(line: &[u8]) -> bool
     ensures { result ≡ true → (cr : Bool) → passed tt ≡ row_three (line_with line.now cr) }
 {
-    begins(line, &USUAL_HEAD) & is_descriptor(behind(line, DESCRIPTOR_AT))
+    line.strip_prefix(&USUAL_HEAD).is_some_and(is_descriptor)
 }
 
 pub fn read_three(line: Line<'_>) -> Result<(), Verdict>

@@ -20,7 +20,7 @@ const CELLS: usize = 64;
 
 const TABLE_WORDS: usize = CELLS * Cell::WIDTH;
 
-// The longest piece of the cases, and the words that its report must hold.
+// The longest piece of the cases, and the words that its report must hold, by hand as in lseload.
 const PIECE_SIZE: usize = 4_096;
 
 const REPORT_WORDS: usize = PER_ENTRY * (2 + PIECE_SIZE / 2);
@@ -36,7 +36,7 @@ fn cells_of(rt: &impl Print, table: &[u32; TABLE_WORDS]) -> io::Result<()> {
     Ok(())
 }
 
-// Feeds a case's file in pieces, and finishes.
+// Feeds a case's file in pieces, and finishes. So do lseload and reexport, each with pieces that come otherwise; print, which all stand on, knows no loader.
 fn replay(rt: &impl Print, case: Case<'_>) -> Result<(), Stop> {
     let mut table = [0; TABLE_WORDS];
     let mut report = [0; REPORT_WORDS];

@@ -4,5 +4,5 @@ use Rattle.batches.proofs.next_batch.Goals as goal
 
 pub returns-clause-read : goal.returns-clause-read
 returns-clause-read c =
-    let runs = c.read_lines-run.ensures.ran in
-    record { behind = runs.moved c.requires.left; within = runs.within; room = runs.room; holds = runs.holds; ran = runs.ran }
+    let runs = c.read_lines-next.ensures.ran in
+    record { behind = runs.moved c.requires.left; within = runs.within; holds = runs.holds; ran = runs.ran }

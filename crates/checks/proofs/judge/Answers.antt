@@ -1,12 +1,13 @@
 -- `checks::judge` meets its contract.
 -- Assumes nothing.
 use mathlib.Core.Path.{sym, ◌∙◌}
-use native.Mathlib.Numerals.{add-one}
 use native.Mathlib.Omega.{arith}
+use borrow.Author.Rules.{rules}
 use Rattle.report.proofs.Passing.{is-error, none-given}
 use Rattle.registry.proofs.Halves.{found-meter}
 use Rattle.registry.proofs.Laws.{meters-most}
 use Rattle.checks.specs.Check.{judge}
+use Rattle.checks.proofs.Judging.{day_given, fault_given}
 use Rattle.checks.proofs.judge.Goals as goal
 
 pub returns-in_err-meter : goal.returns-in_err-meter
@@ -22,16 +23,19 @@ returns-in_err-meter c =
 pub meter_checks-requires : goal.meter_checks-requires
 meter_checks-requires c = (found-meter _ _ _ (sym c.find.ensures ∙ c.in_ok-meter.ensures.ok_part)).0
 
-pub overflow_add-result : goal.overflow_add-result
-overflow_add-result c = omega (arith, (found-meter _ _ _ (sym c.find.ensures ∙ c.in_ok-meter.ensures.ok_part)).0, meters-most c.args.index.now)
+pub overflow_add-number : goal.overflow_add-number
+overflow_add-number c = omega (arith, (found-meter _ _ _ (sym c.find.ensures ∙ c.in_ok-meter.ensures.ok_part)).0, meters-most c.args.index.now)
 
-pub overflow_cast-result : goal.overflow_cast-result
-overflow_cast-result c = omega (arith, (found-meter _ _ _ (sym c.find.ensures ∙ c.in_ok-meter.ensures.ok_part)).0, meters-most c.args.index.now)
+pub overflow_cast-number : goal.overflow_cast-number
+overflow_cast-number c = omega (arith, (found-meter _ _ _ (sym c.find.ensures ∙ c.in_ok-meter.ensures.ok_part)).0, meters-most c.args.index.now)
 
-pub returns-in-Ok : goal.returns-in-Ok
+pub returns-in_err-day : goal.returns-in_err-day
 unfolding judge
-returns-in-Ok c = rw (← c.find.ensures, c.in_ok-meter.ensures.ok_part, ← c.in-Ok.ensures)
+returns-in_err-day c =
+    rw (is-error _ _ c.from_residual-in_err-day.ensures.1, ← c.find.ensures, c.in_ok-meter.ensures.ok_part, ← c.meter_checks.ensures)
+    (fault_given _ _ _ _ c.map_err.ensures.cases _ c.in_err-day.was (λ v made. search rules))
 
-pub returns-in-Err : goal.returns-in-Err
+pub returns : goal.returns
 unfolding judge
-returns-in-Err c = rw (← c.find.ensures, c.in_ok-meter.ensures.ok_part, ← c.in-Err.ensures, add-one)
+returns c =
+    rw (← c.find.ensures, c.in_ok-meter.ensures.ok_part, ← c.meter_checks.ensures) (day_given _ _ _ _ c.map_err.ensures.cases _ c.in_ok-day.was)

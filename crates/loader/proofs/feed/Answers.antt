@@ -17,16 +17,16 @@ overflow_add-state g c = omega (arith, few_bytes _ _ _ _ (feed c.args.piece.now)
 pub loop-at-init : goal.loop-at-init
 loop-at-init g c = (begins _ _ _ _ _ _ _ (rw (← c.room.ensures) c.in_ok-index.ensures.number) c.admit.ensures.kept _ refl, c.in_ok-index.ensures.index)
 
-pub put-requires-clause-fits : goal.put-requires-clause-fits
-put-requires-clause-fits g c = fits _ _ _ _ _ _ _ _ _ _ _ _ c.loop-at.invariant.0 _ (record { scan = c.next_batch-batch.new.scan; taken = c.loop-at.state.taken }) _ (rw c.loop-at.invariant.1 at c.next_batch-batch.ensures.read)
+pub put-requires : goal.put-requires
+put-requires g c = fits _ _ _ _ _ _ _ _ _ _ _ _ c.loop-at.invariant.0 _ (record { scan = c.next_batch-next.new.scan; taken = c.loop-at.state.taken }) _ _ (rw c.loop-at.invariant.1 at c.next_batch-next.ensures.read)
 
 pub overflow_add-count : goal.overflow_add-count
-overflow_add-count g c = omega (arith, few _ _ _ _ _ _ _ _ _ _ _ _ c.loop-at.invariant.0 _ (record { scan = c.next_batch-batch.new.scan; taken = c.loop-at.state.taken }) _ (rw c.loop-at.invariant.1 at c.next_batch-batch.ensures.read))
+overflow_add-count g c = omega (arith, c.count-count.ensures.0, few _ _ _ _ _ _ _ _ _ _ _ _ c.loop-at.invariant.0 _ (record { scan = c.next_batch-next.new.scan; taken = c.loop-at.state.taken }) _ _ (rw c.loop-at.invariant.1 at c.next_batch-next.ensures.read))
 
 pub loop-at-preserved : goal.loop-at-preserved
 loop-at-preserved g c = (
-  steps _ _ _ _ _ _ _ _ _ _ _ _ c.loop-at.invariant.0 _ _ _ (rw c.loop-at.invariant.1 at c.next_batch-batch.ensures.read) _ c.put.ensures.entered c.put.ensures.behind refl (search rules),
-  c.next_batch-batch.ensures.index ∙ c.loop-at.invariant.1,
+  rw c.count-count.ensures.0 (steps _ _ _ _ _ _ _ _ _ _ _ _ c.loop-at.invariant.0 _ _ _ _ (rw c.loop-at.invariant.1 at c.next_batch-next.ensures.read) _ c.put.ensures.entered c.put.ensures.behind refl (search rules)),
+  c.next_batch-next.ensures.index ∙ c.loop-at.invariant.1,
 )
 
 pub returns : goal.returns

@@ -13,11 +13,11 @@ end_file-batch-requires-clause-room g c = end-room g.T.Slot.entries g.T.Slot.beh
 pub end_file-batch-requires-clause-holds : goal.end_file-batch-requires-clause-holds
 end_file-batch-requires-clause-holds g c = end-holds g.T.Slot.entries g.T.Slot.behind c.in_ok-index.index c.args.table.now c.args.report.now c.args.state.now (rw (c.in_ok-index.ensures.index, ← c.room.ensures) c.in_ok-index.ensures.number) c.admit.ensures.kept
 
-pub put-requires-clause-fits : goal.put-requires-clause-fits
-put-requires-clause-fits g c = end-fits g.T.Slot.entries g.T.Slot.behind c.in_ok-index.index c.args.table.now c.args.report.now c.args.state.now (rw (c.in_ok-index.ensures.index, ← c.room.ensures) c.in_ok-index.ensures.number) _ _ c.end_file-batch.ensures
+pub put-requires : goal.put-requires
+put-requires g c = end-fits g.T.Slot.entries g.T.Slot.behind c.in_ok-index.index c.args.table.now c.args.report.now c.args.state.now (rw (c.in_ok-index.ensures.index, ← c.room.ensures) c.in_ok-index.ensures.number) _ _ c.end_file-batch.ensures
 
 pub returns : goal.returns
 returns g c =
-    rw (← c.in_ok-index.ensures.index)
+    rw (← c.in_ok-index.ensures.index, c.count.ensures.0)
     (ends g.T.Slot.entries g.T.Slot.behind c.in_ok-index.index c.args.table.now c.args.report.now c.args.state.now (rw (c.in_ok-index.ensures.index, ← c.room.ensures) c.in_ok-index.ensures.number) _ _ c.end_file-batch.ensures
     _ _ c.put.ensures.entered c.put.ensures.behind c.fresh.ensures (search rules))

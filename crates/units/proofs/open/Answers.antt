@@ -1,14 +1,7 @@
 -- `units::open` meets its contract.
 -- Assumes nothing.
-use mathlib.Core.Path.{refl}
-use Rattle.plain.specs.Loader.{settle, entries_of, loads_of}
-use Rattle.units.proofs.Kept.{quiet-reads}
+use Rattle.units.proofs.Kept.{says-begun}
 use Rattle.units.proofs.open.Goals as goal
 
-pub returns-in-Err : goal.returns-in-Err
-unfolding settle entries_of loads_of
-returns-in-Err c = rw (c.refused.ensures, c.from.ensures, ← c.in-Err.ensures) (record { leaves = refl; entered = refl; none = refl })
-
-pub returns-in-Ok : goal.returns-in-Ok
-unfolding settle
-returns-in-Ok c = rw (c.quiet.ensures, ← c.in-Ok.ensures) (quiet-reads _)
+pub returns : goal.returns
+returns c = rw (← c.row_one.ensures, ← says-begun c.row_one.result c.map.result c.map_err-row.result c.map.ensures.cases c.map_err-row.ensures.cases _ _) (c.settle.ensures _)

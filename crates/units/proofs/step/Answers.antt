@@ -17,7 +17,7 @@ pub returns-in-None : goal.returns-in-None
 returns-in-None c = rw (c.in-None.is, c.stray.ensures) (stray-reads _ _ _ _ c.in-Detail.is)
 
 pub returns-in-Takes : goal.returns-in-Takes
-returns-in-Takes c = rw (c.in-Takes.is, row-reads _ _ _ _ c.in-Detail.is, ← c.row_next-row.ensures) (c.settle.ensures _)
+returns-in-Takes c = rw (c.in-Takes.is, row-reads _ _ _ _ c.in-Detail.is, ← c.row_next-row.ensures.says) (c.settle.ensures _)
 
 pub returns-in-Detail-kind : goal.returns-in-Detail-kind
 unfolding step_kind entries_of loads_of

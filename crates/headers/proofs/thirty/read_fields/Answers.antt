@@ -1,12 +1,20 @@
 -- `headers::thirty::read_fields` meets its contract.
 -- Assumes nothing.
 use mathlib.Core.Path.{◌∙◌}
+use Rattle.report.specs.Outcome.{passed}
 use Rattle.report.proofs.Passing.{bind-exit}
-use Rattle.headers.proofs.Pairs.{thirty-fields}
+use Rattle.headers.specs.Thirty.{behind_name, has_duns, sender_name, is_thirty, thirty_of}
+use Rattle.headers.proofs.Pairs.{parted, number-said}
 use Rattle.headers.proofs.thirty.read_fields.Goals as goal
 
 pub returns-in_err-require : goal.returns-in_err-require
-returns-in_err-require c = bind-exit _ _ _ c.from_residual.ensures.1 ∙ rw (thirty-fields _ _ _ _ _ _ _ _ c.requires.count c.after-rest2.ensures c.field-pairs.ensures c.after-rest3.ensures c.field-mre.ensures c.after-rest4.ensures c.field-sender.ensures c.after.ensures _ _ _ _ c.same.ensures c.has_duns.ensures c.has_duns-2.ensures c.ends_row.ensures, ← c.in_err-require.ensures)
+unfolding thirty_of is_thirty
+returns-in_err-require c =
+    bind-exit _ _ _ c.from_residual.ensures.1
+    ∙ rw (← c.of-fields.ensures, c.next.ensures.taken, c.next-pairs.ensures.taken, c.next-mre.ensures.taken, c.next-sender.ensures.taken, c.next-receiver.ensures.taken, c.next-rep.ensures.taken, ← c.same.ensures, ← c.has_duns.ensures, ← c.ends_row.ensures, parted c.same.result c.has_duns.result (has_duns sender_name c.next-sender.result.now) c.ends_row.result (passed (behind_name sender_name c.next-sender.result.now)), ← c.in_err-require.ensures)
 
 pub returns : goal.returns
-returns c = rw (c.behind.ensures, thirty-fields _ _ _ _ _ _ _ _ c.requires.count c.after-rest2.ensures c.field-pairs.ensures c.after-rest3.ensures c.field-mre.ensures c.after-rest4.ensures c.field-sender.ensures c.after.ensures _ _ _ _ c.same.ensures c.has_duns.ensures c.has_duns-2.ensures c.ends_row.ensures, ← c.in_ok-require.ensures)
+unfolding thirty_of is_thirty
+returns c =
+    rw (c.ok_or.ensures.value, ← c.of-fields.ensures, c.next.ensures.taken, c.next-pairs.ensures.taken, c.next-mre.ensures.taken, c.next-sender.ensures.taken, c.next-receiver.ensures.taken, c.next-rep.ensures.taken, ← c.same.ensures, ← c.has_duns.ensures, ← c.ends_row.ensures, parted c.same.result c.has_duns.result (has_duns sender_name c.next-sender.result.now) c.ends_row.result (passed (behind_name sender_name c.next-sender.result.now)), ← c.in_ok-require.ensures)
+    (number-said _ _ _ c.duns_of.ensures)

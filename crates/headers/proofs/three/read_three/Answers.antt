@@ -1,8 +1,8 @@
 -- `headers::three::read_three` meets its contract.
 -- Assumes nothing.
-use mathlib.Core.Path.{◌∙◌}
+use mathlib.Core.Path.{ap, ◌∙◌}
 use native.Mathlib.Omega.{arith}
-use Rattle.text.proofs.Comma.{cut_at}
+use lib.ListN.{length}
 use Rattle.report.proofs.Passing.{says-exit}
 use Rattle.lines.proofs.Begin.{begun-due}
 use Rattle.headers.specs.Three.{row_three}
@@ -12,8 +12,12 @@ pub returns-in_err-begin : goal.returns-in_err-begin
 unfolding row_three
 returns-in_err-begin c = says-exit _ _ c.from_residual.ensures.1 ∙ rw (← c.in_err-begin.ensures)
 
+pub next-requires : goal.next-requires
+next-requires c = omega (arith, (begun-due _ _ _ c.in_ok-begin.ensures).count, ap length c.of-fields.ensures)
+
+pub next-requires-2 : goal.next-requires-2
+next-requires-2 c = omega (arith, (begun-due _ _ _ c.in_ok-begin.ensures).count, ap length c.of-fields.ensures, c.next.ensures.count)
+
 pub returns : goal.returns
 unfolding row_three
-returns c =
-    let due = begun-due _ _ _ c.in_ok-begin.ensures in
-    rw (← c.in_ok-begin.ensures, cut_at 1 c.args.line.body.now (omega (arith, due.count)), ← c.after.ensures, ← c.field-descriptor.ensures, ← c.is_descriptor.ensures) c.require.ensures
+returns c = rw (← c.in_ok-begin.ensures, ← c.of-fields.ensures, c.next.ensures.taken, c.next-2.ensures.taken, ← c.is_descriptor.ensures) c.require.ensures

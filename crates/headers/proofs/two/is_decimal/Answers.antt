@@ -1,18 +1,15 @@
 -- `headers::two::is_decimal` meets its contract.
 -- Assumes nothing.
-use native.Mathlib.Omega.{arith}
-use Rattle.text.proofs.Decimal.{run_stops}
-use Rattle.headers.proofs.Forms.{decimal-whole, decimal-point}
+use mathlib.Core.Path.{refl}
+use borrow.Author.Rules.{rules}
+use Rattle.headers.proofs.Forms.{decimal-whole, decimal-point, decimal-odd}
 use Rattle.headers.proofs.two.is_decimal.Goals as goal
 
-pub returns-then-w-f : goal.returns-then-w-f
-returns-then-w-f c = search decimal-whole
+pub returns-in-empty : goal.returns-in-empty
+returns-in-empty c = decimal-whole _ _ c.digits-w.ensures _ c.behind.ensures c.in-empty.len_below
 
-pub overflow_add-w : goal.overflow_add-w
-overflow_add-w c = omega (arith, run_stops _ _ c.digits-w.ensures c.if-w-f.false)
+pub returns-in-46 : goal.returns-in-46
+returns-in-46 c = decimal-point _ _ c.digits-w.ensures _ c.behind.ensures c.in-46.len_at_least (search rules) _ _ c.all_digits.ensures refl
 
-pub bounds-f-w : goal.bounds-f-w
-bounds-f-w c = search run_stops
-
-pub returns : goal.returns
-returns c = search decimal-point
+pub returns-in_default : goal.returns-in_default
+returns-in_default c = decimal-odd _ _ c.digits-w.ensures _ c.behind.ensures c.in_default.len_at_least (search rules)

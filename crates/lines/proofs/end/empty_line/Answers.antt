@@ -1,11 +1,14 @@
 -- `lines::end::empty_line` meets its contract.
 -- Assumes nothing.
-use native.Mathlib.Omega.{arith}
+use Rattle.std.proofs.Common.{rules}
 use Rattle.lines.proofs.Ends.{empty-lf, empty-CR-LF}
 use Rattle.lines.proofs.end.empty_line.Goals as goal
 
-pub returns-then-piece-at-eq-LF : goal.returns-then-piece-at-eq-LF
-returns-then-piece-at-eq-LF c = empty-lf _ _ (omega arith) c.if-piece-at-eq-LF.true
+pub returns-in-13 : goal.returns-in-13
+returns-in-13 c = empty-CR-LF _ _ _ c.in_ok-get.ensures.lookup.0.2 c.in-13.len_at_least (search rules) (search rules)
 
-pub returns-then-piece-at : goal.returns-then-piece-at
-returns-then-piece-at c = empty-CR-LF _ _ (omega arith) c.if-piece-at.true
+pub returns-in-10 : goal.returns-in-10
+returns-in-10 c = empty-lf _ _ _ c.in_ok-get.ensures.lookup.0.2 c.in-10.len_at_least (search rules)
+
+pub returns-in-10-2 : goal.returns-in-10-2
+returns-in-10-2 c = empty-lf _ _ _ c.in_ok-get.ensures.lookup.0.2 (search rules) (search rules)

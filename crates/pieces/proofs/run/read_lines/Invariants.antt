@@ -1,14 +1,14 @@
 -- The loop of `pieces::run::read_lines`.
 -- Assumes nothing.
 use Rattle.std.proofs.Common.{◌≡◌, ◌-◌, ◌*◌, ◌≤◌, length}
-use Rattle.pieces.specs.Ran.{scan_of, batch_size, most_said}
+use Rattle.pieces.specs.Ran.{scan_of, most_said}
 use Rattle.pieces.proofs.Moving.{Comes}
 use Rattle.pieces.proofs.run.read_lines.Given as goal
 
 abbrev pub invariant-loop-scan : goal.invariant-loop-scan
 invariant-loop-scan l =
-    Comes l.index (scan_of l.initial.scan) l.piece l.at (record { at = l.e; count = l.count }) l.scan l.initial.table l.table l.out
-    × (length l.table ≡ length l.initial.table) × (l.count ≤ batch_size) × (l.count ≤ most_said * (l.e - l.at)) × (l.index ≡ l.initial.index)
+    Comes l.index (scan_of l.initial.scan) l.piece l.at l.e l.scan l.initial.table l.table l.batch
+    × (length l.table ≡ length l.initial.table) × (length l.batch ≤ most_said * (l.e - l.at)) × (l.index ≡ l.initial.index)
 
 abbrev pub decreases-loop-scan : goal.decreases-loop-scan
 decreases-loop-scan l = length l.piece - l.e

@@ -1,12 +1,13 @@
 -- What the loops of `runs::rows::read_headers` keep, and why they end.
+use mathlib.Core.Path.{◌≡◌}
+use mathlib.Core.Bool.{false}
 use Prim.Native.Nat.{◌-◌}
 use lib.ListN.{length}
-use mathlib.Core.Bool.{false}
-use Rattle.runs.specs.Run.{rows_to, RowsRan}
+use Rattle.runs.specs.Run.{went_by, RowsRan}
 use Rattle.runs.proofs.rows.read_headers.Given as goal
 
-abbrev pub invariant-loop-k : goal.invariant-loop-k
-invariant-loop-k l = RowsRan l.p l.lines l.piece l.at l.initial.parts (rows_to l.p l.k l.n l.e false) l.parts
+abbrev pub invariant-loop-r : goal.invariant-loop-r
+invariant-loop-r l = RowsRan l.fn.p l.lines l.piece l.at l.initial.parts (went_by l.r.unit l.r.lines l.r.at) l.parts × (l.r.all ≡ false)
 
-abbrev pub decreases-loop-k : goal.decreases-loop-k
-decreases-loop-k l = length l.piece - l.e
+abbrev pub decreases-loop-r : goal.decreases-loop-r
+decreases-loop-r l = length l.piece - l.r.at

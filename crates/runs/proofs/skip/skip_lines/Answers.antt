@@ -5,7 +5,7 @@ use Rattle.runs.proofs.Skipping.{skips_begin, skips-again}
 use Rattle.runs.proofs.skip.skip_lines.Goals as goal
 
 pub loop-e-init : goal.loop-e-init
-loop-e-init c = skips_begin _ _ _ c.requires.0 c.requires.1
+loop-e-init c = skips_begin _ _ _ c.requires
 
 pub returns-then-end-piece : goal.returns-then-end-piece
 returns-then-end-piece c = rw c.gone_by.ensures c.loop-e.invariant

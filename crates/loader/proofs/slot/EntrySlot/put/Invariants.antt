@@ -5,4 +5,4 @@ use Rattle.loader.specs.Report.{pasted}
 use Rattle.loader.proofs.slot.EntrySlot.put.Given as goal
 
 abbrev pub invariant-loop-i : goal.invariant-loop-i
-invariant-loop-i l = l.report ≡ pasted l.initial.report l.from (first_entries l.i l.batch.words)
+invariant-loop-i l = l.report ≡ pasted l.initial.report l.from (first_entries l.i l.words)
