@@ -1,2 +1,2 @@
--- The batches that a call works in.
+-- The batch that a finish works in.
 pub mod Batch

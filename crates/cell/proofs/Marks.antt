@@ -14,7 +14,7 @@ use lib.Pow.{shl_exact}
 use lib.ListN.{length, get_or, set, length-append, length-set, get_or-append}
 use lib.Seq.{ext_get_or, get_or_at, get_or-set_same, get_or-set_other}
 use borrow.Author.Tests.{eqb-true, eqb-false, eq-eqb, ne_eqb}
-use Rattle.cell.specs.Layout.{Words, width, marks_at, values_at, word_bits, mark_bits}
+use Rattle.cell.specs.Layout.{Words, marks_at, values_at, word_bits, mark_bits}
 use Rattle.cell.specs.Marks.{bit, mark_word, is_estimated, statuses, with_mark}
 use Rattle.cell.proofs.Bits.{bit-or, bit_pow}
 
@@ -108,8 +108,8 @@ pub mark_set : (w : Words) (i : ℕ) → masked w i ≡ with_mark w i
 unfolding with_mark
 mark_set w i = rw (mask i)
 
-pub mark_statuses : (w : Words) (i : ℕ) → i < mark_bits → length w ≡ width → statuses mark_bits (masked w i) ≡ set (statuses mark_bits w) i true
-mark_statuses w i h l = rw (mark_set w i) (marked_status mark_bits w i h (le_refl mark_bits) (omega (arith, l)))
+pub mark_statuses : (w : Words) (i : ℕ) → i < mark_bits → values_at ≤ length w → statuses mark_bits (masked w i) ≡ set (statuses mark_bits w) i true
+mark_statuses w i h l = rw (mark_set w i) (marked_status mark_bits w i h (le_refl mark_bits) l)
 
 -- a shift and a mask test a bit
 pub tested : (w : Words) (i : ℕ) → eqb (bit_and (get_or w (mark_word i) 0 / 2 ^ (i % word_bits)) 1) 1 ≡ is_estimated w i

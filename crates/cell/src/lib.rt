@@ -23,7 +23,7 @@ use headers::time::Stamp;
 
 pub mod mark;
 
-// The words of a cell, of the table or of a read that is built.
+// The words of a cell, of the table or of a read that is built: document 01 says which word is what, and C has them so.
 pub type Words = [u32; Cell::WIDTH];
 
 // One cell, to be built up and then loaded.

@@ -16,6 +16,7 @@ use report::require;
 use report::verdict::{Fault, Verdict};
 use text::names::{DUNS_SIZE, ESI_ID_SIZE};
 
+// The flags are bits of the registry's own byte.
 const ERCOT_FLAG: u8 = 1;
 
 const INTERVAL_FLAG: u8 = 2;

@@ -1,3 +1,2 @@
 -- Laws of the definitions, by subject; each function's proof cites them.
 pub mod Worth
-pub mod Quarters

@@ -8,7 +8,8 @@
 //
 // In a clause a text is its bytes so far.
 //
-// For whoever changes it: a number's digits are `digits_of` of text/specs/Number.antt; `put_digits` is the only function that finds them.
+// For whoever changes it: a number's digits are `digits_of` of text/specs/Number.antt; `put_digits` is the only function that finds
+// them, but for crate `direct`, which compares the two digits of a detail row's code byte by byte, for speed.
 #![tactic(auto)]
 
 ghost use Rattle.std.specs.Prelude.{◌≡◌, [], ◌++◌, ◌+◌, ◌≤◌, length};

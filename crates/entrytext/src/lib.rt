@@ -43,6 +43,7 @@ fn put_line<const N: usize>(text: &mut Text<N>, e: Entry)
 }
 
 // Puts the lines of a report's entries, from one of them on up to `count`, as long as there is room for a longest line; gives how many.
+// The report is words, as for C: with its parts of five in their place, a law would have to tie each to `entry_at`, for the same loop.
 pub fn put_entries<const N: usize>(
     text: &mut Text<N>,
     report: &[u32],

@@ -29,15 +29,28 @@ fn name_of(channel: Channel) -> &'static str {
     }
 }
 
-pub fn one(rt: &impl Print, line: &str) -> io::Result<()> {
-    let read = read_one(whole(line.as_bytes()));
+// A row: its verdict, what it gives where it passes, and its bytes.
+fn row<T: Drop, Gives: FnOnce(T) -> io::Result<()>>(
+    rt: &impl Print,
+    read: Result<T, Verdict>,
+    line: &str,
+    gives: Gives,
+) -> io::Result<()>
+    requires { Gives.IsAlwaysCallable gives }
+{
     print!(rt; "{}", answer(&read))?;
-    if let Ok(one) = read {
-        print!(rt; " ")?;
-        rt.write_all(one.id)?;
-        print!(rt; " {} {}", name_of(one.channel), one.day)?;
+    if let Ok(given) = read {
+        gives(given)?;
     }
     println!(rt; ": {line}")
+}
+
+pub fn one(rt: &impl Print, line: &str) -> io::Result<()> {
+    row(rt, read_one(whole(line.as_bytes())), line, |one| {
+        print!(rt; " ")?;
+        rt.write_all(one.id)?;
+        print!(rt; " {} {}", name_of(one.channel), one.day)
+    })
 }
 
 // A line that can't be printed, as row one.
@@ -46,36 +59,25 @@ pub fn odd(rt: &impl Print, line: &[u8]) -> io::Result<()> {
     println!(rt; "{}: {} bytes", answer(&read), line.len())
 }
 
-// A row that gives nothing but its verdict.
-fn bare(rt: &impl Print, read: Result<(), Verdict>, line: &str) -> io::Result<()> {
-    println!(rt; "{}: {line}", answer(&read))
-}
-
 pub fn two(rt: &impl Print, line: &str) -> io::Result<()> {
-    bare(rt, read_two(whole(line.as_bytes())), line)
+    row(rt, read_two(whole(line.as_bytes())), line, |()| Ok(()))
 }
 
 pub fn three(rt: &impl Print, line: &str) -> io::Result<()> {
-    bare(rt, read_three(whole(line.as_bytes())), line)
+    row(rt, read_three(whole(line.as_bytes())), line, |()| Ok(()))
 }
 
 pub fn four(rt: &impl Print, line: &str) -> io::Result<()> {
-    let read = read_four(whole(line.as_bytes()));
-    print!(rt; "{}", answer(&read))?;
-    if let Ok(stamp) = read {
-        print!(rt; " {} {}", stamp.date, stamp.clock)?;
-    }
-    println!(rt; ": {line}")
+    row(rt, read_four(whole(line.as_bytes())), line, |stamp| {
+        print!(rt; " {} {}", stamp.date, stamp.clock)
+    })
 }
 
 pub fn thirty(rt: &impl Print, line: &str) -> io::Result<()> {
-    let read = read_thirty(whole(line.as_bytes()));
-    print!(rt; "{}", answer(&read))?;
-    if let Ok(sender) = read {
+    row(rt, read_thirty(whole(line.as_bytes())), line, |sender| {
         print!(rt; " ")?;
-        rt.write_all(sender)?;
-    }
-    println!(rt; ": {line}")
+        rt.write_all(sender)
+    })
 }
 
 fn interval(rt: &impl Print, i: Interval) -> io::Result<()> {
@@ -84,12 +86,15 @@ fn interval(rt: &impl Print, i: Interval) -> io::Result<()> {
 }
 
 pub fn detail(rt: &impl Print, k: u32, line: &str) -> io::Result<()> {
-    let read = read_detail(whole(line.as_bytes()), k);
-    print!(rt; "{}", answer(&read))?;
-    if let Ok(intervals) = read {
-        for i in intervals {
-            interval(rt, i)?;
-        }
-    }
-    println!(rt; ": {line}")
+    row(
+        rt,
+        read_detail(whole(line.as_bytes()), k),
+        line,
+        |intervals| {
+            for i in intervals {
+                interval(rt, i)?;
+            }
+            Ok(())
+        },
+    )
 }

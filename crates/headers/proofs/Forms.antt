@@ -1,23 +1,20 @@
 -- Row two: its forms, at each answer of their checkers, and the walk along the fields.
 -- Assumes nothing.
-use mathlib.Core.Path.{◌≡◌, refl, ap, sym, ◌∙◌}
+use mathlib.Core.Path.{◌≡◌, refl, sym, ◌∙◌}
 use mathlib.Core.List.{List, [], ◌∷◌}
 use mathlib.Core.Bool.{Bool, true, false, not, ◌&&◌, and-true, and-false}
 use Prim.Native.Nat.{ℕ, ◌+◌, ◌-◌, ◌<◌, ◌≤◌}
 use native.Mathlib.Omega.{arith}
 use native.Mathlib.Numerals.{add-one}
-use native.Mathlib.Nat.{le_of_eq}
 use lib.Dec.{eqb, leb}
-use lib.ListN.{length, take, drop, get_or, length-drop, drop_of_length-le}
-use lib.Seq.{drop-cons, drop-drop}
+use lib.ListN.{length, take, drop, get_or}
+use lib.Seq.{drop-cons}
 use borrow.Author.Tests.{eq-eqb, ne_eqb, leb-true}
 use Rattle.text.specs.Byte.{Bytes, is_digit, every}
-use Rattle.text.specs.Field.{cut, first_field, after_field}
 use Rattle.text.specs.Number.{number, leading, behind, Digits}
 use Rattle.text.proofs.Truth.{and_left, and_right}
 use Rattle.text.proofs.Left.{left-cons, left-whole}
 use Rattle.text.proofs.Decimal.{run_drop}
-use Rattle.text.proofs.Comma.{cut-head, cut-more}
 use Rattle.headers.specs.declared.two.Form.TheVariants.{Code}
 use Rattle.headers.specs.Two.{decimal_parts, is_decimal, up_to_digits, is_unit_code, is_zone_count, fits_form, row_two_forms, fit_all}
 
@@ -64,49 +61,42 @@ module _ (f : Bytes) (w : ℕ) (run : w ≡ length (leading f)) (g : Bytes) (eg 
   parted : 1 ≤ length g → g ≡ get_or g 0 0 ∷ drop 1 g
   parted h = left-cons g 0 (omega arith)
 
-  pub decimal-point : 1 ≤ length g → get_or g 0 0 ≡ 46 → (p : Bytes) (r : Bool) → r ≡ every is_digit p → p ≡ take (length g - 1) (drop 1 g)
-      → (leb 1 w && leb w 15 && r && leb 1 (length p) && leb (length p) 4) ≡ is_decimal f
-  unfolding is_decimal decimal_parts
-  decimal-point h e p r er ep = rw (tail, parted h, lead, eq-eqb (get_or g 0 0) 46 e, and-true, er, ep, left-whole g 1)
+  pub decimal-point : 1 ≤ length g → get_or g 0 0 ≡ 46 → (p : Bytes) (r : Bool) → r ≡ up_to_digits 4 p → p ≡ take (length g - 1) (drop 1 g)
+      → (leb 1 w && leb w 15 && r) ≡ is_decimal f
+  unfolding is_decimal decimal_parts up_to_digits
+  decimal-point h e p r er ep =
+      rw (er, tail, parted h, lead, eq-eqb (get_or g 0 0) 46 e, and-true, ep, left-whole g 1)
+      (reordered (leb 1 w && leb w 15) (every is_digit (drop 1 g)) (leb 1 (length (drop 1 g))) (leb (length (drop 1 g)) 4))
+    where
+      reordered : (x d a b : Bool) → (x && (a && b && d)) ≡ (x && d && a && b)
+      reordered true true a b = and-true (a && b)
+      reordered true false a b = and-false (a && b)
+      reordered false d a b = refl
 
   pub decimal-odd : 1 ≤ length g → (get_or g 0 0 ≡ 46 → ⊥) → false ≡ is_decimal f
   unfolding is_decimal decimal_parts
   decimal-odd h e = rw (tail, parted h, ne_eqb (get_or g 0 0) 46 e, and-false)
 
--- THE WALK: rest is what field k begins
-next_field : (fs : List Bytes) (k : ℕ) (rest : Bytes) → drop k fs ≡ cut rest → drop k fs ≡ first_field rest ∷ drop (k + 1) fs
-next_field fs k rest e =
-    let g = cut-head rest in
-    let d : drop (k + 1) fs ≡ g.0 = sym (drop-drop 1 k fs) ∙ ap (drop 1) (e ∙ g.1) in
-    e ∙ g.1 ∙ ap (λ x. first_field rest ∷ x) (sym d)
-
-next-rest : (fs : List Bytes) (k : ℕ) (rest : Bytes) → drop k fs ≡ cut rest → k + 1 < length fs → drop (k + 1) fs ≡ cut (after_field rest)
-next-rest fs k rest e h =
-    let l : 1 < length (cut rest) = rw (← e) (simp length-drop (omega arith)) in
-    sym (drop-drop 1 k fs) ∙ ap (drop 1) (e ∙ cut-more rest l)
-
+-- THE WALK: of the forms, k are gone by, and fs are the fields that are left
 next-form : (k : ℕ) → k < 14 → drop k row_two_forms ≡ get_or row_two_forms k Code ∷ drop (k + 1) row_two_forms
 next-form k h = rw (add-one, drop-cons row_two_forms k Code h)
 
-module _ (line rest : Bytes) (k : ℕ) (long : length (cut line) ≡ 14) (so_far : fit_all row_two_forms (cut line) ≡ fit_all (drop k row_two_forms) (drop k (cut line)))
-    (here : k < 14 → drop k (cut line) ≡ cut rest) where
-  module _ (h : k < 14) (f : Bytes) (ef : f ≡ first_field rest) (r : Bool) (e : r ≡ fits_form (get_or row_two_forms k Code) f) where
-    there : drop k (cut line) ≡ f ∷ drop (k + 1) (cut line)
-    there = next_field (cut line) k rest (here h) ∙ rw ef
-
-    pub walk_ends : r ≡ false → false ≡ fit_all row_two_forms (cut line)
+module _ (all fs : List Bytes) (k : ℕ) (so_far : fit_all row_two_forms all ≡ fit_all (drop k row_two_forms) fs) where
+  module _ (h : k < 14) (f : Bytes) (rest : List Bytes) (taken : fs ≡ f ∷ rest) (r : Bool) (e : r ≡ fits_form (get_or row_two_forms k Code) f) where
+    pub walk_ends : r ≡ false → false ≡ fit_all row_two_forms all
     unfolding fit_all
-    walk_ends t = sym (so_far ∙ rw (next-form k h, there, ← e, t))
+    walk_ends t = sym (so_far ∙ rw (next-form k h, taken, ← e, t))
 
-    pub walk_on : r ≡ true → fit_all row_two_forms (cut line) ≡ fit_all (drop (k + 1) row_two_forms) (drop (k + 1) (cut line))
+    pub walk_on : r ≡ true → fit_all row_two_forms all ≡ fit_all (drop (k + 1) row_two_forms) rest
     unfolding fit_all
-    walk_on t = so_far ∙ rw (next-form k h, there, ← e, t)
+    walk_on t = so_far ∙ rw (next-form k h, taken, ← e, t)
 
-  pub walk_next : (h : k < 14) (next : Bytes) → next ≡ after_field rest → k + 1 < 14 → drop (k + 1) (cut line) ≡ cut next
-  walk_next h next e g = next-rest (cut line) k rest (here h) (omega arith) ∙ rw e
-
-  pub walk_done : k ≤ 14 → 14 ≤ k → true ≡ fit_all row_two_forms (cut line)
+  pub walk_done : 14 ≤ k → k + length fs ≡ 14 → true ≡ fit_all row_two_forms all
   unfolding fit_all
-  walk_done h g =
+  walk_done h l =
       let e : k ≡ 14 = omega arith in
-      sym (so_far ∙ rw (e, drop_of_length-le (cut line) (le_of_eq long)))
+      sym (so_far ∙ rw e (none-left fs (omega arith)))
+    where
+      none-left : (fs : List Bytes) → length fs ≡ 0 → fit_all [] fs ≡ true
+      none-left [] z = refl
+      none-left (f ∷ fs) z = absurd (omega (arith, z))

@@ -1,8 +1,7 @@
 // Row one: ESI ID, channel, and the day that start and stop span.
-ghost use Rattle.std.specs.Prelude.{◌≡◌, length};
-ghost use Rattle.text.specs.Field.{cut};
+ghost use Rattle.std.specs.Prelude.{◌≡◌};
 ghost use Rattle.report.specs.Outcome.{says};
-ghost use Rattle.headers.specs.One.{channel_number, channel_of, day_of, one_of, row_one};
+ghost use Rattle.headers.specs.One.{channel_number, channel_of, day_of, row_one};
 ghost use Rattle.lines.specs.Answer.{line_of};
 ghost use Rattle.headers.specs.Answer.{one_says};
 
@@ -12,7 +11,6 @@ use lines::row::begin;
 use report::require;
 use report::verdict::Verdict;
 use text::bytes::same;
-use text::cutting::Fields;
 use text::names::is_esi_id;
 
 // By its number in a cell's address and in a state's words.
@@ -39,6 +37,7 @@ pub struct One<'a> {
     pub day: u32,
 }
 
+// By two tests: in a `match` on the bytes each case wants a lemma of its own, for its length and its byte.
 pub fn read_channel(f: &[u8]) -> Result<Channel, Verdict>
     ensures { says result ≡ channel_of f.now }
 {
@@ -64,12 +63,11 @@ fn read_day(start: &[u8], stop: &[u8], yes: &[u8], no: &[u8]) -> Result<u32, Ver
     Ok(from.date)
 }
 
-// The fields behind the code.
-fn read_fields(line: &[u8]) -> Result<One<'_>, Verdict>
-    requires { length (cut line.now) ≡ 7 }
-    ensures { one_says result ≡ one_of (cut line.now) }
+#[tactic(auto, using(lines::proofs::Begin::fields_counted))]
+pub fn read_one<'a>(line: Line<'a>) -> Result<One<'a>, Verdict>
+    ensures { one_says result ≡ row_one (line_of line.entry) }
 {
-    let mut fields = Fields::of(line);
+    let mut fields = begin(line, b"00000001", 7)?;
     fields.next();
     let id = fields.next();
     let third = fields.next();
@@ -81,11 +79,4 @@ fn read_fields(line: &[u8]) -> Result<One<'_>, Verdict>
     let channel = read_channel(third)?;
     let day = read_day(start, stop, yes, no)?;
     Ok(One { id, channel, day })
-}
-
-pub fn read_one<'a>(line: Line<'a>) -> Result<One<'a>, Verdict>
-    ensures { one_says result ≡ row_one (line_of line.entry) }
-{
-    begin(line, b"00000001", 7)?;
-    read_fields(line.body)
 }

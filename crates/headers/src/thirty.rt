@@ -1,10 +1,7 @@
 // Row thirty: names with their DUNS numbers; the Sender's is what the loader wants of it.
 ghost use Rattle.std.specs.Prelude.{◌≡◌, true, false};
 ghost use Rattle.std.specs.Option.{MatchOption};
-ghost use Rattle.text.specs.Byte.{ascii};
-ghost use Rattle.text.specs.Field.{cut};
-ghost use Rattle.lines.specs.Row.{Due};
-ghost use Rattle.headers.specs.Thirty.{behind_name, has_duns, ends_thirty, thirty_of, row_thirty};
+ghost use Rattle.headers.specs.Thirty.{behind_name, has_duns, ends_thirty, row_thirty};
 ghost use Rattle.lines.specs.Answer.{line_of};
 ghost use Rattle.headers.specs.Answer.{thirty_says};
 
@@ -13,7 +10,6 @@ use lines::row::begin;
 use report::require;
 use report::verdict::Verdict;
 use text::bytes::same;
-use text::cutting::Fields;
 use text::names::is_duns;
 
 // The DUNS number behind its name, where a field is those two.
@@ -39,12 +35,11 @@ fn ends_row(receiver: &[u8], rep: &[u8]) -> bool
     same(receiver, b"Receiver=183529049") & (has_duns(rep, b"REP=") | same(rep, b"REP="))
 }
 
-// The fields behind the code.
-fn read_fields(line: &[u8]) -> Result<&[u8], Verdict>
-    requires { Due (ascii "00000030") 6 line.now }
-    ensures { thirty_says result ≡ thirty_of (cut line.now) }
+#[tactic(auto, using(lines::proofs::Begin::fields_counted))]
+pub fn read_thirty<'a>(line: Line<'a>) -> Result<&'a [u8], Verdict>
+    ensures { thirty_says result ≡ row_thirty (line_of line.entry) }
 {
-    let mut fields = Fields::of(line);
+    let mut fields = begin(line, b"00000030", 6)?;
     fields.next();
     let pairs = fields.next();
     let mre = fields.next();
@@ -56,11 +51,4 @@ fn read_fields(line: &[u8]) -> Result<&[u8], Verdict>
         & ends_row(receiver, rep);
     require(fits, Verdict::Misfit)?;
     duns_of(sender, b"Sender=").ok_or(Verdict::Misfit)
-}
-
-pub fn read_thirty<'a>(line: Line<'a>) -> Result<&'a [u8], Verdict>
-    ensures { thirty_says result ≡ row_thirty (line_of line.entry) }
-{
-    begin(line, b"00000030", 6)?;
-    read_fields(line.body)
 }

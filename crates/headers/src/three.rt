@@ -8,14 +8,13 @@ use lines::line::Line;
 use lines::row::begin;
 use report::require;
 use report::verdict::Verdict;
-use text::cutting::Fields;
 use text::names::is_descriptor;
 
+#[tactic(auto, using(lines::proofs::Begin::fields_counted))]
 pub fn read_three(line: Line<'_>) -> Result<(), Verdict>
     ensures { says result ≡ row_three (line_of line.entry) }
 {
-    begin(line, b"00000003", 2)?;
-    let mut fields = Fields::of(line.body);
+    let mut fields = begin(line, b"00000003", 2)?;
     fields.next();
     require(is_descriptor(fields.next()), Verdict::Misfit)
 }

@@ -15,7 +15,7 @@ const TIME_SIZE: usize = DATE_SIZE + CLOCK_SIZE;
 // 23:59:00. Row one is written with it (rowtext), and `usual::one` has its digits as bytes.
 pub const DAY_STOP: u32 = 235900;
 
-// A date YYYYMMDD and a time of day HHMMSS.
+// A date YYYYMMDD and a time of day HHMMSS. A stamp has the same fields and is another thing: a time is a field of a row, a stamp settles which read wins.
 #[derive(Clone, Copy, Debug, PartialEq, Eq)]
 pub struct Time {
     pub date: u32,
@@ -58,7 +58,7 @@ fn moment_of(t: Time) -> u64
     u64::from(t.date) * 1_000_000 + u64::from(t.clock)
 }
 
-// Whether start is numerically below stop.
+// Whether start is numerically below stop: by one number, since a clock of more than six digits too compares so, where a derived order would not.
 pub fn is_below(start: Time, stop: Time) -> bool
     ensures { result ≡ is_below start stop }
 {

@@ -1,8 +1,6 @@
 // Row two: a table of fourteen field forms, walked by one field checker.
 ghost use Rattle.std.specs.Prelude.{◌≡◌, length};
-ghost use Rattle.text.specs.Byte.{ascii};
 ghost use Rattle.text.specs.Field.{cut};
-ghost use Rattle.lines.specs.Row.{Due};
 ghost use Rattle.report.specs.Outcome.{says};
 ghost use Rattle.headers.specs.Two.{is_decimal, up_to_digits, is_unit_code, is_zone_count, fits_form, row_two_forms, fit_all, has_multiplier, row_two};
 ghost use Rattle.lines.specs.Answer.{line_of};
@@ -13,7 +11,7 @@ use report::require;
 use report::verdict::Verdict;
 use text::bytes::{all_digits, is_empty, same};
 use text::cutting::Fields;
-use text::fields::{after, behind, field};
+use text::fields::behind;
 use text::numbers::{digits, number_of};
 
 // What a field may be.
@@ -36,7 +34,7 @@ pub enum Form {
     ZoneName,
 }
 
-// The forms of fields 1 to 14.
+// The forms of fields 1 to 14: the table that document 01 names, which one field checker walks.
 const FORMS: [Form; 14] = [
     Form::Code,
     Form::Decimal,
@@ -62,7 +60,7 @@ fn is_decimal(f: &[u8]) -> bool
     let whole = (1 <= w) & (w <= 15);
     match behind(f, w) {
         [] => whole,
-        [b'.', part @ ..] => whole & all_digits(part) & (1 <= part.len()) & (part.len() <= 4),
+        [b'.', part @ ..] => whole & up_to_digits(part, 4),
         _ => false,
     }
 }
@@ -112,17 +110,14 @@ fn fits(form: Form, f: &[u8]) -> bool
 }
 
 // Whether each field has its form.
-fn fit_all(line: &[u8]) -> bool
-    requires { Due (ascii "00000002") 14 line.now }
-    ensures { result ≡ fit_all row_two_forms (cut line.now) }
+fn fit_all(mut fields: Fields<'_>) -> bool
+    requires { length fields ≡ 14 }
+    ensures { result ≡ fit_all row_two_forms fields.entry }
 {
-    let mut rest = line;
     for form in FORMS {
-        let f = field(rest);
-        if !fits(form, f) {
+        if !fits(form, fields.next()) {
             return false;
         }
-        rest = after(rest, f);
     }
     true
 }
@@ -140,12 +135,10 @@ fn has_multiplier(line: &[u8]) -> bool
     is_empty(start) | is_empty(stop) | !is_empty(multiplier)
 }
 
+#[tactic(auto, using(lines::proofs::Begin::fields_counted))]
 pub fn read_two(line: Line<'_>) -> Result<(), Verdict>
     ensures { says result ≡ row_two (line_of line.entry) }
 {
-    begin(line, b"00000002", 14)?;
-    require(
-        fit_all(line.body) & has_multiplier(line.body),
-        Verdict::Misfit,
-    )
+    let fields = begin(line, b"00000002", 14)?;
+    require(fit_all(fields) & has_multiplier(line.body), Verdict::Misfit)
 }

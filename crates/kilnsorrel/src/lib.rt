@@ -51,7 +51,7 @@ pub extern "C" fn kilnsorrel_fresh(state: &mut [u32]) -> u64
     packed(Ok(0))
 }
 
-// A feed of a piece, or a finish.
+// A feed of a piece, or a finish. An Option tells which, and no closure does: a closure's contract would say `Keeps` of both.
 fn answer(
     state: &mut State,
     piece: Option<&[u8]>,

@@ -1,24 +1,21 @@
 -- Bytes of a piece without an LF: more of them, by a stride or by one; and an empty line.
 -- Assumes nothing.
-use mathlib.Core.Path.{◌≡◌, refl, sym, ap, ◌∙◌}
-use mathlib.Core.List.{List, [], ◌∷◌, ◌++◌}
-use mathlib.Core.Bool.{Bool, true, false, cond}
-use Prim.Native.Nat.{ℕ, zero, suc, ◌+◌, ◌-◌, ◌*◌, ◌<◌, ◌≤◌}
+use mathlib.Core.Path.{◌≡◌, sym, ap, ◌∙◌}
+use Rattle.std.proofs.Common.{Some}
+use mathlib.Core.List.{[], ◌∷◌, ◌++◌}
+use mathlib.Core.Bool.{true, false}
+use Prim.Native.Nat.{ℕ, suc, ◌+◌, ◌-◌, ◌<◌, ◌≤◌}
 use native.Mathlib.Omega.{arith}
 use lib.Dec.{eqb}
 use lib.ListN.{length, take, drop, get_or, length-append, length-drop}
 use lib.Seq.{take-add, drop-drop, drop-cons, take-append_seam, drop-append_seam, length-take-le}
-use Rattle.std.specs.Iterator.{AlwaysYields}
-use Rattle.std.specs.List.{prefix_len}
-use Rattle.std.specs.Slice.Iter.{chunks_exact_steps}
-use Rattle.std.specs.declared.slice.ChunksExact.{ChunksExact}
 use Rattle.std.proofs.lemmas.List.{get_or-take, get_or-drop}
 use borrow.Author.Tests.{eqb-true}
 use Rattle.text.specs.Byte.{Bytes, every}
 use Rattle.text.proofs.Left.{left-whole}
 use Rattle.text.proofs.Class.{every_append, every_from}
 use Rattle.lines.specs.Line.{LF, CR, not_lf, drop_cr}
-use Rattle.lines.specs.End.{between, NoneTo, LineEnd, LineAt, EmptyAt}
+use Rattle.lines.specs.End.{between, NoneTo, LineEnd, EndIn, LineAt, EmptyAt}
 
 -- a part of the piece, in two
 pub between-add : (piece : Bytes) (at mid end : ℕ) → at ≤ mid → mid ≤ end → between at end piece ≡ between at mid piece ++ between mid end piece
@@ -43,6 +40,21 @@ module _ (piece : Bytes) (at e : ℕ) (n : NoneTo piece at e) where
         clean = rw (between-add piece at e end n.behind h) (every_append not_lf (between at e piece) (between e end piece) n.clean clean);
       }
 
+  -- a stride without one
+  module _ (part rest : Bytes) (size : ℕ) (left : drop e piece ≡ part ++ rest) (whole : length part ≡ size) where
+    stride-part : between e (e + size) piece ≡ part
+    stride-part =
+        let s : e + size - e ≡ length part = omega arith in
+        rw (s, left) (take-append_seam part rest)
+
+    pub stride_left : drop (e + size) piece ≡ rest
+    stride_left =
+        let s : e + size ≡ e + length part = omega arith in
+        rw s (sym (drop-drop (length part) e piece) ∙ rw left (drop-append_seam part rest))
+
+    pub stride_none : every not_lf part ≡ true → NoneTo piece at (e + size)
+    stride_none clean = none_more (e + size) (omega arith) (omega (arith, ap length left, length-append {A = ℕ}, length-drop {A = ℕ}, n.within)) (rw stride-part clean)
+
   -- what is left of the piece has its first LF at a place, or none
   module _ (rest : Bytes) (left : rest ≡ between e (length piece) piece) where
     left_drop : rest ≡ drop e piece
@@ -61,56 +73,12 @@ module _ (piece : Bytes) (at e : ℕ) (n : NoneTo piece at e) where
         let m : k < i = omega (arith, l, b) in
         rw (get_or-take i rest k 0 m, other k m))))
 
-    pub lf_at : (i : ℕ) → i < length rest → eqb (get_or rest i 0) LF ≡ true → ((k : ℕ) → k < i → eqb (get_or rest k 0) LF ≡ false) → LineEnd piece at (e + i)
+    pub lf_at : (i : ℕ) → i < length rest → eqb (get_or rest i 0) LF ≡ true → ((k : ℕ) → k < i → eqb (get_or rest k 0) LF ≡ false) → EndIn piece at (Some (e + i))
     lf_at i h found other =
-        record { none = none_among i (omega arith) other; ends = λ _. sym (get_or-drop e piece i 0) ∙ rw left_drop at (eqb-true _ _ found) }
+        (omega (arith, h, left_size), record { none = none_among i (omega arith) other; ends = λ _. sym (get_or-drop e piece i 0) ∙ rw left_drop at (eqb-true _ _ found) })
 
-    pub no_lf : ((k : ℕ) → k < length rest → eqb (get_or rest k 0) LF ≡ false) → LineEnd piece at (length piece)
-    no_lf other = record { none = rw left_size at (none_among (length rest) (omega arith) other); ends = λ g. absurd (omega (arith, g)) }
-
--- ---- STRIDES
-
--- the first n strides
-abbrev pub strides : ℕ → Bytes → List Bytes
-strides zero s = []
-strides (suc n) s = take 16 s ∷ strides n (drop 16 s)
-
--- `chunks_exact` gives them
-pub strides_come : (n : ℕ) (parts : ChunksExact ℕ) → parts.size ≡ 16 → n * 16 ≤ length parts.rest.now → length parts.rest.now < n * 16 + 16
-    → AlwaysYields chunks_exact_steps (λ b. b.now) parts (strides n parts.rest.now)
-strides_come zero parts size some few = λ x j h. absurd (omega (arith, size, few, ap length h.1.0, length-append x.now j.rest.now, h.1.1))
-strides_come (suc n) parts size some few = (
-  λ j h. absurd (omega (arith, size, some, h.1.0)),
-  λ x j h.
-      let whole : length x.now ≡ 16 = h.1.1 ∙ size in
-      let part : take 16 parts.rest.now ≡ x.now = rw (← whole, h.1.0) (take-append_seam x.now j.rest.now) in
-      let rest : drop 16 parts.rest.now ≡ j.rest.now = rw (← whole, h.1.0) (drop-append_seam x.now j.rest.now) in
-      let left : length parts.rest.now ≡ 16 + length j.rest.now = omega (arith, whole, ap length h.1.0, length-append x.now j.rest.now) in
-      (sym part, rw rest (strides_come n j (h.0 ∙ size) (omega (arith, left, some)) (omega (arith, left, few)))),
-)
-
--- over those without an LF
-pub strides_none : (piece : Bytes) (at : ℕ) (n e : ℕ) → NoneTo piece at e → n * 16 ≤ length (drop e piece)
-    → NoneTo piece at (e + 16 * prefix_len (λ b. every not_lf b) (strides n (drop e piece)))
-strides_none piece at zero e none some =
-    let z : e + 16 * 0 ≡ e = omega arith in
-    rw z none
-strides_none piece at (suc n) e none some =
-    let far : length (drop (e + 16) piece) + 16 ≡ length (drop e piece) = omega (arith, some, length-drop e piece, length-drop (e + 16) piece) in
-    go (every not_lf (take 16 (drop e piece))) refl _ refl (λ h. strides_none piece at n (e + 16) h (omega (arith, far, some)))
-  where
-    go : (b : Bool) → every not_lf (take 16 (drop e piece)) ≡ b → (m : ℕ) → prefix_len (λ b. every not_lf b) (strides n (drop 16 (drop e piece))) ≡ m
-        → (NoneTo piece at (e + 16) → NoneTo piece at (e + 16 + 16 * prefix_len (λ b. every not_lf b) (strides n (drop (e + 16) piece))))
-        → NoneTo piece at (e + 16 * cond b (1 + m) 0)
-    go false t m is on =
-        let z : e + 16 * 0 ≡ e = omega arith in
-        rw z none
-    go true t m is on =
-        let size : e + 16 - e ≡ 16 = omega arith in
-        let k : e + 16 + 16 * m ≡ e + 16 * (1 + m) = omega arith in
-        let rest : drop 16 (drop e piece) ≡ drop (e + 16) piece = drop-drop 16 e piece in
-        let len : prefix_len (λ b. every not_lf b) (strides n (drop (e + 16) piece)) ≡ m = rw rest at is in
-        rw k at (rw len at (on (none_more piece at e none (e + 16) (omega arith) (omega (arith, some, length-drop e piece)) (rw size t))))
+    pub no_lf : ((k : ℕ) → k < length rest → eqb (get_or rest k 0) LF ≡ false) → NoneTo piece at (length piece)
+    no_lf other = rw left_size at (none_among (length rest) (omega arith) other)
 
 -- a line with its LF
 pub with_lf : (piece : Bytes) (at end : ℕ) → LineEnd piece at end → end < length piece → between at (suc end) piece ≡ between at end piece ++ (LF ∷ [])

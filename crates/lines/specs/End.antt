@@ -1,6 +1,6 @@
 -- Where a line of a piece ends.
 -- Assumes nothing.
-use Rattle.std.specs.Prelude.{◌≡◌, [], ℕ, ◌+◌, ◌-◌, ◌<◌, ◌≤◌, length, take, drop, get_or}
+use Rattle.std.specs.Prelude.{◌≡◌, [], ℕ, ◌+◌, ◌-◌, ◌<◌, ◌≤◌, length, take, drop, get_or, Option, MatchOption}
 use Rattle.text.specs.Byte.{Bytes}
 use Rattle.lines.specs.Line.{LF, NoLf, drop_cr}
 
@@ -18,6 +18,10 @@ pub record NoneTo (piece : Bytes) (at end : ℕ) : Type 0 where
 pub record LineEnd (piece : Bytes) (at end : ℕ) : Type 0 where
   pub none : NoneTo piece at end
   pub ends : end < length piece → get_or piece end 0 ≡ LF
+
+-- the place of the first LF at or behind a place, or that there is none
+abbrev pub EndIn : Bytes → ℕ → Option ℕ → Type 0
+EndIn piece at r = MatchOption r (NoneTo piece at (length piece)) (λ end. (end < length piece) × LineEnd piece at end)
 
 -- a line at a place, of so many bytes with its LF
 pub record LineAt (piece : Bytes) (at size : ℕ) : Type 0 where

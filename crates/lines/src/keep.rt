@@ -6,7 +6,8 @@ use crate::line::LINE_LIMIT;
 
 pub const KEPT_LIMIT: usize = LINE_LIMIT + 1;
 
-// Puts a part of the line behind the bytes that are held, as far as there is room; how many are held then.
+// Puts a part of the line behind the bytes that are held, as far as there is room; how many are held then. That number stands beside the bytes, and no
+// type ties them: a state has both as words, of which any may come.
 pub fn keep(kept: &mut [u8; KEPT_LIMIT], held: usize, part: &[u8]) -> usize
     requires { held ≤ kept_limit }
     ensures { (take result kept.new ≡ take kept_limit (take held kept.old ++ part.now)) × (result ≤ kept_limit) × (length kept.new ≡ kept_limit) }

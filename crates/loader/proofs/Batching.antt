@@ -30,13 +30,13 @@ use Rattle.plain.specs.Call.{room_for, fresh, Asked, feed, finish, Call, piece_o
 use Rattle.plain.specs.Promise.{cut_scan, cut_to, view_from, code_number, code_call}
 use Rattle.plain.proofs.Room.{feed-room, finish-room}
 use Rattle.units.specs.Answer.{HasRoom}
-use Rattle.pieces.specs.Ran.{scan_of, Ran, Holds}
+use Rattle.pieces.specs.Ran.{scan_of, Ran, Holds, Runs}
 use Rattle.pieces.proofs.Running.{ran-both, ran-none}
 use Rattle.state.specs.declared.State.{State}
 use Rattle.state.specs.View.{view_of}
 use Rattle.state.specs.Refused.{number_for}
 use Rattle.state.proofs.Refusals.{Fits, fits-state, is-allowed, few_bytes, room_enough}
-use Rattle.batches.specs.Batch.{Next, Last}
+use Rattle.batches.specs.Batch.{Last}
 use Rattle.loader.specs.Keeps.{Keeps}
 use Rattle.loader.specs.Report.{pasted}
 use Rattle.loader.proofs.Reports.{paste-behind, paste-front}
@@ -198,7 +198,7 @@ module _ {A : Type 0} (entries : List A → List Entry) (behind : ℕ → List A
             room_enough s₀ reg (length t₀) (length (entries r₀)) (feed bs) c.goes,
           )
 
-      module _ (t' : Words) (s' : State) (next : ℕ) (batch : List Entry) (x : Next reg (scan_of s.scan) bs at next batch s'.scan t t') where
+      module _ (t' : Words) (s' : State) (next : ℕ) (batch : List Entry) (x : Runs reg (scan_of s.scan) bs at next s'.scan t t' batch) where
         both : Ran (rules_of reg) (scan_of s₀.scan) (between 0 next bs) (scan_of s'.scan) (c.told ++ batch) t₀ t'
         both =
             rw (between-add bs 0 at next (omega arith) (omega (arith, x.behind)))

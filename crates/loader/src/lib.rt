@@ -7,8 +7,8 @@
 // A call tells how many entries it wrote into the report, from place 0 on, or why it was refused; a refusal writes nothing and changes nothing. A report
 // is a run of entries, or of words, five an entry (`slot`). What a list of calls does is proofs/Demand3.antt; the claim is plain/specs/Claim.antt.
 //
-// For whoever changes it: `feed` counts bytes and entries, and passes all else on. What is refused is state's `admit`, the work is in batches' `next_batch` and
-// `end_file`, over words and not over entries; `Slot::put` puts a batch into the report. The laws that their proofs cite are proofs/Batching.antt's.
+// For whoever changes it: `feed` counts bytes and entries, and passes all else on. What is refused is state's `admit`, the work is in pieces' `read_lines` and
+// batches' `end_file`, over words and not over entries; `Slot::put` puts a batch into the report. The laws that their proofs cite are proofs/Batching.antt's.
 #![tactic(auto)]
 
 ghost use Rattle.std.specs.Prelude.{◌≡◌};
@@ -17,7 +17,8 @@ ghost use Rattle.loader.specs.Keeps.{Keeps};
 
 pub mod slot;
 
-use batches::{end_file, next_batch};
+use batches::end_file;
+use pieces::run::read_lines;
 use report::refusal::Refusal;
 use slot::Slot;
 use state::refuse::admit;
@@ -37,7 +38,7 @@ pub fn feed<T: Slot>(
     let mut at: usize = 0;
     let mut count: usize = 0;
     while at < piece.len() {
-        let (next, batch) = next_batch(&mut state.scan, piece, at, &mut index, table);
+        let (next, batch) = read_lines(&mut state.scan, piece, at, &mut index, table);
         T::put(report, count, &batch);
         at = next;
         count += batch.count();

@@ -35,6 +35,7 @@ impl Slot for Entry {
 
     fn put(report: &mut [Entry], from: usize, batch: &Batch) {
         let words = batch.words();
+        // By an index: over `iter_mut` of a part, what it leaves would need a function and a lemma of its own.
         for i in 0..batch.count() {
             report[from + i] = entry_at(words, i);
         }

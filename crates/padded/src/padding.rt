@@ -1,10 +1,10 @@
 // Texts padded at the end with spaces.
 ghost use Rattle.std.specs.Prelude.{◌≡◌, ◌<◌, ◌≤◌, length};
-ghost use Rattle.text.specs.Identifier.{esi_id_size, duns_size};
 ghost use Rattle.padded.specs.Padding.{is_space, pad, unpad, is_padded_esi_id, is_padded_duns};
 ghost use Rattle.padded.specs.Private.{is_padded, spaces_last};
 
 use text::bytes::{all_digits, every, is_alnum};
+use text::names::{DUNS_SIZE, ESI_ID_SIZE};
 
 const SPACE: u8 = b' ';
 
@@ -35,16 +35,14 @@ fn spaces_last(s: &[u8]) -> bool
 }
 
 // 64 bytes: an ESI ID, padded at the end with spaces. The 63 pairs of neighbours are tested as 48 and 16, which fill whole vectors.
-pub fn is_padded_esi_id(s: &[u8]) -> bool
-    requires { length s.now ≡ esi_id_size }
+pub fn is_padded_esi_id(s: &[u8; ESI_ID_SIZE]) -> bool
     ensures { result ≡ is_padded_esi_id s.now }
 {
     (s[0] != SPACE) & every(s, is_padded) & spaces_last(&s[0..49]) & spaces_last(&s[47..64])
 }
 
 // 13 bytes: a DUNS number, padded at the end with spaces. Behind its first 9 digits stand 4 more, or 4 spaces.
-pub fn is_padded_duns(s: &[u8]) -> bool
-    requires { length s.now ≡ duns_size }
+pub fn is_padded_duns(s: &[u8; DUNS_SIZE]) -> bool
     ensures { result ≡ is_padded_duns s.now }
 {
     let nine = &s[..9];

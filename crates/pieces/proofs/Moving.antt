@@ -35,7 +35,7 @@ use Rattle.pieces.proofs.Running.{ran-both, ran-none}
 
 module _ (s : KeptScan) (piece : Bytes) (at : ℕ) (h : Holds s (length piece - at)) where
   pub run_asks : at ≤ length piece → Asks s.unit s.lines piece at s.parts
-  run_asks within = record { within = within; fits = h.fits; details = h.details }
+  run_asks within = record { fits = record { within = within; fits = h.fits }; details = h.details }
 
   module _ (reg : Bytes) (q : Passed KeptUnit) (parts : Parts) (t : Words) (p : Passes s.unit s.lines s.held piece at s.parts q parts) (next : Stepped)
       (j : Reads (judged_if q.all reg q.lines (unit_of q.unit parts)) (unit_of next.unit parts) (told next.said)) where
@@ -61,7 +61,7 @@ module _ (s : KeptScan) (piece : Bytes) (at : ℕ) (h : Holds s (length piece - 
           few = h.few;
           whole = h.whole;
           details = rw (ap (λ x. x.unit) to_is) at (few-scan reg (scan_of s) (between at q.at piece) h.details);
-          fits = p.fits;
+          fits = p.fits.fits;
         }
 
 -- ---- A BATCH
@@ -101,7 +101,7 @@ module _ (reg : Bytes) (from : Scan) (piece : Bytes) (at next : ℕ) (s : KeptSc
       → Comes reg from piece at q.at (record { kept = s.kept; held = s.held; lines = q.lines; unit = step.unit; parts = parts }) before after
       (batch ++ told step.said)
   comes_run q parts p step j =
-      comes_by q.at (record { kept = s.kept; held = s.held; lines = q.lines; unit = step.unit; parts = parts }) after (told step.said) p.behind p.within
+      comes_by q.at (record { kept = s.kept; held = s.held; lines = q.lines; unit = step.unit; parts = parts }) after (told step.said) p.behind p.fits.within
       (run_holds s piece next c.holds reg q parts after p step j) (run_ran s piece next c.holds reg q parts after p step j)
 
   -- a line, or what the piece has of it

@@ -13,7 +13,7 @@ use borrow.Author.Tests.{eqb-true, eqb-false}
 use Rattle.std.specs.Prelude.{None}
 use Rattle.text.specs.Byte.{Bytes}
 use Rattle.lines.specs.Line.{LF, ended_line, kept_limit}
-use Rattle.lines.specs.End.{between, LineEnd}
+use Rattle.lines.specs.End.{between, NoneTo, LineEnd}
 use Rattle.lines.proofs.Ends.{with_lf}
 use Rattle.cell.specs.Layout.{Words}
 use Rattle.plain.specs.Rows.{Rules, max_details, rules_of}
@@ -30,6 +30,10 @@ use Rattle.units.specs.Answer.{unit_of, told_by, Does}
 use Rattle.pieces.specs.declared.Scan.{Scan as KeptScan}
 use Rattle.pieces.specs.declared.line.Moved.{Moved}
 use Rattle.pieces.specs.Ran.{scan_of, Holds, Moves}
+
+-- where none is, the piece's end is the end of what there is of the line
+pub no_end : (piece : Bytes) (at : ℕ) → NoneTo piece at (length piece) → LineEnd piece at (length piece)
+no_end piece at h = record { none = h; ends = λ g. absurd (omega (arith, g)) }
 
 -- from a place of a piece
 module _ (reg : Bytes) (s : KeptScan) (piece : Bytes) (at : ℕ) (before : Words) (H : Holds s (length piece - at)) (end : ℕ) (E : LineEnd piece at end) where

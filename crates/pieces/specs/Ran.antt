@@ -25,7 +25,8 @@ pub record Ran (R : Rules) (from : Scan) (bytes : Bytes) (to : Scan) (entries : 
   pub reaches : to ≡ cut_scan (scan_to R from bytes)
   pub tells : Tells R (scan_events R from bytes) entries before after
 
--- a scan that a state can hold, with so many bytes of the piece still to read
+-- a scan that a state can hold, with so many bytes of the piece still to read; no invariant of a scan, since any words of C's are some state, and refusal
+-- 1 is what asks
 pub record Holds (s : KeptScan) (left : ℕ) : Type 0 where
   pub few : s.held ≤ kept_limit
   pub whole : s.held ≤ length s.kept

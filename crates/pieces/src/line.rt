@@ -12,7 +12,8 @@ use registry::Index;
 use report::Entry;
 use units::read_line;
 
-// The place behind what was read, and the verdicts that fell, in order.
+// The place behind what was read, and the verdicts that fell, in order. A line's own (`LineRead` of units) has the unit in the place of the place: one type
+// for both would have a field that is neither.
 #[derive(Clone, Copy, Debug, PartialEq, Eq)]
 pub struct Moved {
     pub at: usize,
@@ -44,16 +45,15 @@ pub fn next_line(
     requires within { at ≤ length piece.now }
     ensures { Moves index.now (scan_of scan.old) piece.now at result scan.new table.old table.new }
 {
-    let end = line_end(piece, at);
-    let part = &piece[at..end];
-    if end == piece.len() {
-        scan.held = keep(&mut scan.kept, scan.held, part);
+    let Some(end) = line_end(piece, at) else {
+        scan.held = keep(&mut scan.kept, scan.held, &piece[at..]);
         return Moved {
-            at: end,
+            at: piece.len(),
             first: None,
             second: None,
         };
-    }
+    };
+    let part = &piece[at..end];
     let n = keep_end(&mut scan.kept, scan.held, part);
     let raw = line_of(scan.held, &scan.kept[..n], part);
     scan.lines += 1;

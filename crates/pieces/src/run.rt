@@ -1,5 +1,5 @@
 // Lines of a piece, one run and one line after the other, with the entries of their verdicts put into a batch.
-ghost use Rattle.std.specs.Prelude.{◌≡◌, [], ◌&&◌, ◌+◌, ◌-◌, ◌<◌, ◌≤◌, leb, ltb, length};
+ghost use Rattle.std.specs.Prelude.{◌≡◌, ◌&&◌, ◌+◌, ◌-◌, ◌<◌, ◌≤◌, leb, ltb, length};
 ghost use Rattle.units.specs.Answer.{HasRoom};
 ghost use Rattle.pieces.specs.Ran.{scan_of, Holds, batch_size, most_said, Runs};
 
@@ -30,22 +30,21 @@ fn leave_hint(index: &mut Index<'_>, unit: Unit)
     }
 }
 
-// Lines from a place of the piece on, as long as the batch has room; the place behind them.
+// Lines from a place of the piece on, as many as a batch has room for: the place behind them, and the entries of their verdicts.
 pub fn read_lines(
     scan: &mut Scan,
     piece: &[u8],
     at: usize,
     index: &mut Index<'_>,
     table: &mut [u32],
-    batch: &mut Batch,
-) -> usize
+) -> (usize, Batch)
     requires room { HasRoom index.old table.old }
     requires holds { Holds scan.old (length piece.now - at) }
     requires within { at ≤ length piece.now }
-    requires empty { batch.old ≡ [] }
     ensures index { index.new ≡ index.old }
-    ensures ran { Runs index.old (scan_of scan.old) piece.now at result scan.new table.old table.new batch.new }
+    ensures ran { Runs index.old (scan_of scan.old) piece.now at result.0 scan.new table.old table.new result.1 }
 {
+    let mut batch = Batch::new();
     let mut e = at;
     while goes_on(e, piece.len(), batch.count()) {
         let passed = run_over(scan.unit, scan.lines, scan.held, piece, e, &mut scan.parts);
@@ -59,5 +58,5 @@ pub fn read_lines(
         batch.put(moved.second);
         e = moved.at;
     }
-    e
+    (e, batch)
 }

@@ -55,7 +55,7 @@ pub fn columns(rt: &impl Print) -> io::Result<()> {
     println!(rt; "line verdict at meter day")
 }
 
-// The first entries of a report, a line each.
+// The first entries of a report, a line each. A `while`: each step takes as many entries as the text has room for.
 pub fn entries(rt: &impl Print, report: &[u32], count: usize) -> io::Result<()> {
     let mut text = Text::<OUT>::new();
     let n = entries_in(report, count);

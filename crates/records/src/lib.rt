@@ -119,6 +119,8 @@ fn row_checked(p: Progress, passes: Result<(), Verdict>) -> Result<Progress, Ver
     Ok(counted(p))
 }
 
+// Rows four and thirty are written out: one function over what is read and where it is put would take a closure that writes to the parts, with a contract as
+// long as theirs.
 fn row_four(p: Progress, line: Line<'_>, parts: &mut Parts) -> Result<Progress, Verdict>
     requires { Few p }
     ensures says { header_says result p.day parts.new ≡ four_row (rows_of p parts.old) (line_of line.entry) }

@@ -36,17 +36,21 @@ const FIRST: Address = Address {
     day: 0,
 };
 
+fn stamp(date: u32, clock: u32) -> Stamp {
+    Stamp { date, clock }
+}
+
 // Another value below 1,000 MWh; from 0 on they have all lengths.
 fn next_value(v: u32) -> u32 {
     ((u64::from(v) * 7 + 3) % 1_000_000_000) as u32
 }
 
 // Loads a read of so many intervals into cell number c, every fifth one estimated.
-fn put_read(table: &mut [u32], c: usize, count: usize, date: u32, clock: u32)
+fn put_read(table: &mut [u32], c: usize, count: usize, stamp: Stamp)
     requires { (c * width + width ≤ length table.old) × (count ≤ max_intervals) }
 {
     let mut words = Cell::begun(count as u32).words;
-    put_stamp(&mut words, Stamp { date, clock });
+    put_stamp(&mut words, stamp);
     let mut wh = 0;
     for i in 0..count {
         let estimated = i % 5 == 0;
@@ -56,7 +60,7 @@ fn put_read(table: &mut [u32], c: usize, count: usize, date: u32, clock: u32)
     load(table, c, &words);
 }
 
-// What a cell is written as, put behind the text so far; how long the text then is.
+// What a cell is written as, put behind the text so far; how long the text then is. By a length beside bytes: Write puts into bytes that are lent.
 fn written(
     rt: &impl Print,
     table: &[u32],
@@ -113,14 +117,15 @@ fn there_and_back(rt: &impl Print, table: &[u32]) -> io::Result<()> {
     }
 }
 
-// What Write answers of a cell, with room for its record.
-fn of_cell(rt: &impl Print, name: &str, table: &[u32], cell: Address) -> io::Result<()> {
-    let answer = write(&REGISTRY, table, cell, b"D", &mut [0; TEXT]);
-    answered(rt, name, answer)
-}
-
-fn of_descriptor(rt: &impl Print, name: &str, table: &[u32], descriptor: &[u8]) -> io::Result<()> {
-    let answer = write(&REGISTRY, table, FIRST, descriptor, &mut [0; TEXT]);
+// What Write answers, with room for a record.
+fn writing(
+    rt: &impl Print,
+    name: &str,
+    table: &[u32],
+    cell: Address,
+    descriptor: &[u8],
+) -> io::Result<()> {
+    let answer = write(&REGISTRY, table, cell, descriptor, &mut [0; TEXT]);
     answered(rt, name, answer)
 }
 
@@ -129,26 +134,24 @@ fn refusals(rt: &impl Print, table: &[u32]) -> io::Result<()>
 {
     let early = write(&REGISTRY[..90], table, FIRST, b"D", &mut [0; TEXT]);
     answered(rt, "a registry that ends early", early)?;
-    of_cell(rt, "a table one word short", &table[1..], FIRST)?;
-    of_cell(rt, "meter 2", table, Address { meter: 2, ..FIRST })?;
-    of_cell(
-        rt,
-        "channel 2",
-        table,
-        Address {
-            channel: 2,
-            ..FIRST
-        },
-    )?;
-    of_cell(rt, "day 2", table, Address { day: 2, ..FIRST })?;
+    writing(rt, "a table one word short", &table[1..], FIRST, b"D")?;
+    let meter = Address { meter: 2, ..FIRST };
+    writing(rt, "meter 2", table, meter, b"D")?;
+    let channel = Address {
+        channel: 2,
+        ..FIRST
+    };
+    writing(rt, "channel 2", table, channel, b"D")?;
+    let day = Address { day: 2, ..FIRST };
+    writing(rt, "day 2", table, day, b"D")?;
     let empty = Address {
         meter: 1,
         channel: 1,
         day: 0,
     };
-    of_cell(rt, "an empty cell", table, empty)?;
-    of_descriptor(rt, "a descriptor with a blank", table, b"D 1")?;
-    of_descriptor(rt, "no descriptor", table, b"")?;
+    writing(rt, "an empty cell", table, empty, b"D")?;
+    writing(rt, "a descriptor with a blank", table, FIRST, b"D 1")?;
+    writing(rt, "no descriptor", table, FIRST, b"")?;
     // the record has 1,804 bytes
     let short = write(&REGISTRY, table, FIRST, b"D", &mut [0; 1803]);
     answered(rt, "an output one byte short", short)
@@ -156,11 +159,11 @@ fn refusals(rt: &impl Print, table: &[u32]) -> io::Result<()>
 
 fn main(rt: HostRuntime) -> io::Result<()> {
     let mut table = [0; WORDS];
-    put_read(&mut table, 0, 100, 20081103, 1530);
-    put_read(&mut table, 3, 96, 20081104, 235959);
-    put_read(&mut table, 5, 96, 20081105, 0);
+    put_read(&mut table, 0, 100, stamp(20081103, 1530));
+    put_read(&mut table, 3, 96, stamp(20081104, 235959));
+    put_read(&mut table, 5, 96, stamp(20081105, 0));
     there_and_back(&rt, &table)?;
     refusals(&rt, &table)?;
     table[Cell::DATE] = 20080230;
-    of_cell(&rt, "a stamp that is no date", &table, FIRST)
+    writing(&rt, "a stamp that is no date", &table, FIRST, b"D")
 }

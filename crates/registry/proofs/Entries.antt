@@ -35,7 +35,7 @@ module _ (reg : Bytes) (place n : ℕ) where
 
 -- ---- THE KIND, by what stands behind its byte
 
-by_test : {A : Type 0} (t : Bool) (a : A) → then_some t a ≡ cond t (Some a) None
+pub by_test : {A : Type 0} (t : Bool) (a : A) → then_some t a ≡ cond t (Some a) None
 by_test true a = refl
 by_test false a = refl
 
@@ -45,7 +45,7 @@ module _ (reg : Bytes) (at : ℕ) (h : at < length reg) where
   kind_other e f = rw (left-cons reg at h, ne_eqb (get_or reg at 0) 2 e, ne_eqb (get_or reg at 0) 3 f)
 
   module _ (s : Bytes) (cut : s ≡ take (length reg - (at + 1)) (drop (at + 1) reg)) where
-    behind_it : s ≡ drop (at + 1) reg
+    pub behind_it : s ≡ drop (at + 1) reg
     behind_it = cut ∙ take_all (length reg - (at + 1)) (drop (at + 1) reg) (rw (length-drop (at + 1) reg) (omega arith))
 
     module _ (e : get_or reg at 0 ≡ 2) where

@@ -2,25 +2,28 @@
 -- Assumes nothing.
 use mathlib.Core.Path.{◌≡◌, refl, sym, ap, ◌∙◌}
 use mathlib.Core.List.{[], ◌∷◌}
-use mathlib.Core.Bool.{Bool, true, false, cond, ◌&&◌, and-false}
+use mathlib.Core.Bool.{Bool, true, false, cond, ◌&&◌}
 use Prim.Native.Nat.{ℕ, ◌+◌, ◌-◌, ◌^◌, ◌≤◌, ◌<◌}
 use native.Mathlib.Omega.{arith}
 use lib.Dec.{eqb, leb}
 use lib.ListN.{length, take, drop, get_or, length-take, length-drop}
+use lib.Seq.{take_all}
 use borrow.Author.Tests.{ne_eqb, lt-leb, le-leb, leb-true, leb-false}
 use Rattle.calendar.specs.Date.{is_date}
 use Rattle.calendar.specs.Day.{day_number, last_day}
 use Rattle.calendar.specs.Answer.{day_is}
 use Rattle.std.specs.Prelude.{Option, Some, None}
+use Rattle.std.specs.Bool.{then_some}
 use Rattle.calendar.proofs.Laws.{day-low}
 use Rattle.text.specs.Byte.{Bytes, is_digit, every}
 use Rattle.text.specs.Number.{number, Digits}
 use Rattle.text.proofs.Truth.{and_left, and_right}
-use Rattle.text.proofs.Left.{left-whole}
+use Rattle.text.proofs.Left.{left-cons}
 use Rattle.text.proofs.Decimal.{number-below}
 use Rattle.text.proofs.Class.{every_take, every_drop}
 use Rattle.registry.specs.Entry.{window_size, max_days, first_text, days_text, is_window, window_of, start_of}
 use Rattle.registry.specs.declared.entry.Window.{Window}
+use Rattle.registry.proofs.Entries.{by_test, behind_it}
 
 -- ---- the day of a date, or no date
 
@@ -46,11 +49,6 @@ module _ (date : ℕ) (answer : Option ℕ) (ea : answer ≡ day_is date) where
       let d = is-day n e in
       rw d.1 (day-low date d.0)
 
--- the sum that the code tests is small
-pub sum_low : (date : ℕ) (answer : Option ℕ) → answer ≡ day_is date → (first : ℕ) → answer ≡ Some first → (t : Bytes) (days : ℕ) → Digits 9 t → days ≡ number t
-    → first + days < 10 ^ 9 + 10 ^ 5
-sum_low date answer ea first ef t days d ey = omega (arith, day-within date answer ea first ef, number-below 9 t days d ey)
-
 -- the code asks for the end of the window with no difference
 end_by : (n : ℕ) (a b : Bool) → leb n (last_day + 1) ≡ a → leb (n - 1) last_day ≡ b → a ≡ b
 end_by n true true e f = refl
@@ -58,58 +56,47 @@ end_by n true false e f = absurd (omega (arith, leb-true n (last_day + 1) e, leb
 end_by n false true e f = absurd (omega (arith, leb-false n (last_day + 1) e, leb-true (n - 1) last_day f))
 end_by n false false e f = refl
 
--- the digits of its two numbers
-module _ (body : Bytes) (r : Bool) (er : r ≡ every is_digit body) (h : r ≡ true) where
-  digits : every is_digit body ≡ true
-  digits = sym er ∙ h
+-- ---- THE BODY OF A WINDOW, by what the code tests
 
-  pub date_digits : Digits 9 (take 8 body)
-  date_digits = record { short = rw (length-take 8 body) (omega arith); clean = every_take is_digit 8 body digits }
+module _ (body : Bytes) (n : length body ≡ window_size) (r : Bool) (er : r ≡ every is_digit body) where
+  abbrev read_as : Option Window
+  read_as = cond (is_window body) (Some (window_of body)) None
 
-  pub days-digits : length body ≡ window_size → Digits 9 (take (length body - 8) (drop 8 body))
-  days-digits n = rw (left-whole body 8) (record { short = rw (length-drop 8 body) (omega arith); clean = every_drop is_digit 8 body digits })
-
--- ---- THE WINDOW
-
-pub start-short : (reg : Bytes) → length reg ≤ window_size → None ≡ start_of reg
-unfolding start_of
-start-short [] h = refl
-start-short (k ∷ b) h = rw (lt-leb window_size (length b) (omega arith), and-false)
-
-pub start_other : (reg : Bytes) → (get_or reg 0 0 ≡ 1 → ⊥) → None ≡ start_of reg
-unfolding start_of
-start_other [] h = refl
-start_other (k ∷ b) h = rw (ne_eqb k 1 h)
-
-start-body : (reg : Bytes) → window_size < length reg → get_or reg 0 0 ≡ 1
-    → start_of reg ≡ cond (is_window (take window_size (drop 1 reg))) (Some (window_of (take window_size (drop 1 reg)))) None
-unfolding start_of
-start-body [] h e = absurd (omega arith)
-start-body (k ∷ b) h e = rw (e, le-leb window_size (length b) (omega arith))
-
-module _ (reg : Bytes) (n : window_size < length reg) (e : get_or reg 0 0 ≡ 1) (body : Bytes) (eb : body ≡ take window_size (drop 1 reg)) (r : Bool) (er : r ≡ every is_digit body) where
-  start-here : start_of reg ≡ cond (is_window body) (Some (window_of body)) None
-  start-here = start-body reg n e ∙ rw (← eb)
-
-  pub start_letters : r ≡ false → None ≡ start_of reg
+  pub window_letters : r ≡ false → None ≡ read_as
   unfolding is_window
-  start_letters h = sym (start-here ∙ rw (← er, h))
+  window_letters h = rw (← er, h)
+
+  days-part : take 2 (drop 8 body) ≡ drop 8 body
+  days-part = take_all 2 (drop 8 body) (omega (arith, n, length-drop 8 body))
 
   module _ (h : r ≡ true) where
-    module _ (date days : ℕ) (ed : date ≡ number (take 8 body)) (ey : days ≡ number (take (length body - 8) (drop 8 body))) (answer : Option ℕ) (ea : answer ≡ day_is date) where
-      pub start_no_date : answer ≡ None → None ≡ start_of reg
-      unfolding is_window
-      start_no_date f = sym (start-here ∙ rw (digits body r er h, ← ed, is_no_day date answer ea f))
+    digits : every is_digit body ≡ true
+    digits = sym er ∙ h
 
-      days-here : days_text body ≡ days
-      days-here = sym (ey ∙ rw (left-whole body 8))
+    pub date_digits : Digits 9 (take 8 body)
+    date_digits = record { short = rw (length-take 8 body) (omega arith); clean = every_take is_digit 8 body digits }
+
+    pub days-digits : Digits 9 (take 2 (drop 8 body))
+    days-digits = rw days-part (record { short = rw (length-drop 8 body) (omega arith); clean = every_drop is_digit 8 body digits })
+
+    module _ (date days : ℕ) (ed : date ≡ number (take 8 body)) (ey : days ≡ number (take 2 (drop 8 body))) (answer : Option ℕ) (ea : answer ≡ day_is date) where
+      pub window_no_date : answer ≡ None → None ≡ read_as
+      unfolding is_window
+      window_no_date f = rw (digits, ← ed, is_no_day date answer ea f)
 
       module _ (first : ℕ) (ef : answer ≡ Some first) where
+        -- the sum that the code tests is small
+        pub sum_low : first + days < 10 ^ 9 + 10 ^ 5
+        sum_low = omega (arith, day-within date answer ea first ef, number-below 9 (take 2 (drop 8 body)) days days-digits ey)
+
+        days-here : days_text body ≡ days
+        days-here = sym (ey ∙ rw days-part)
+
         by_tests : is_window body ≡ (leb 1 days && leb days max_days && leb (first + days - 1) last_day)
         unfolding is_window
         by_tests =
             let d = is-day date answer ea first ef in
-            rw (digits body r er h, ← ed, d.0, days-here, ← d.1)
+            rw (digits, ← ed, d.0, days-here, ← d.1)
 
         window-here : window_of body ≡ record { first = first; days = days }
         unfolding window_of
@@ -122,11 +109,30 @@ module _ (reg : Bytes) (n : window_size < length reg) (e : get_or reg 0 0 ≡ 1)
             sym (by_tests ∙ ap (λ (t : Bool). leb 1 days && leb days max_days && t)
             (sym (end_by (first + days) (leb (first + days) (last_day + 1)) (leb (first + days - 1) last_day) refl refl)))
 
-        pub start_right : (leb 1 days && leb days max_days && leb (first + days) (last_day + 1)) ≡ true → Some (record { first = first; days = days }) ≡ start_of reg
-        start_right t = sym (start-here ∙ rw (← tests_same, t, window-here))
+        pub window_read : then_some (leb 1 days && leb days max_days && leb (first + days) (last_day + 1)) (record { first = first; days = days }) ≡ read_as
+        window_read = rw (tests_same, window-here) (by_test (is_window body) (record { first = first; days = days }))
 
-        pub start-wrong : (leb 1 days && leb days max_days && leb (first + days) (last_day + 1)) ≡ false → None ≡ start_of reg
-        start-wrong t = sym (start-here ∙ rw (← tests_same, t))
+-- ---- THE WINDOW, by what stands behind the first byte
+
+pub start_empty : (reg : Bytes) → length reg < 1 → None ≡ start_of reg
+unfolding start_of
+start_empty [] h = refl
+start_empty (k ∷ b) h = absurd (omega (arith, h))
+
+pub start_other : (reg : Bytes) → (get_or reg 0 0 ≡ 1 → ⊥) → None ≡ start_of reg
+unfolding start_of
+start_other [] h = refl
+start_other (k ∷ b) h = rw (ne_eqb k 1 h)
+
+module _ (reg : Bytes) (h : 0 < length reg) (e : get_or reg 0 0 ≡ 1) (s : Bytes) (cut : s ≡ take (length reg - 1) (drop 1 reg)) where
+  pub start-short : length s < window_size → None ≡ start_of reg
+  unfolding start_of
+  start-short l = rw (left-cons reg 0 h, e, ← behind_it reg 0 h s cut, lt-leb window_size (length s) l)
+
+  pub start_whole : window_size ≤ length s → (body : Bytes) → body ≡ take window_size s
+      → (w : Option Window) → w ≡ cond (is_window body) (Some (window_of body)) None → w ≡ start_of reg
+  unfolding start_of
+  start_whole l body eb w ew = rw (left-cons reg 0 h, e, ← behind_it reg 0 h s cut, le-leb window_size (length s) l, ← eb) ew
 
 -- ---- WHAT A WINDOW KEEPS TO
 

@@ -1,4 +1,4 @@
-// Entries as words, five each.
+// Entries as words, five each: so C has them.
 ghost use Rattle.std.specs.Prelude.{◌≡◌, [], ◌∷◌, ◌++◌, ◌+◌, ◌*◌, ◌<◌, length};
 ghost use Rattle.report.specs.Words.{per_entry, entry_at, first_entries, words_of};
 

@@ -91,6 +91,7 @@ module _ (k : ℕ) (piece : Bytes) (at : ℕ) (before : Parts) (p : Progress) (s
       let n : p.read + 0 ≡ p.read = omega arith in
       let j : k + 0 ≡ k = omega arith in
       record {
+        id = ap (λ r. r.id) h.1;
         line = h.0.line;
         step = λ reg first m.
             empty-step (rules_of reg) piece at t.size h.0 m (takes_rows first (rows_of p before))
@@ -104,6 +105,7 @@ module _ (k : ℕ) (piece : Bytes) (at : ℕ) (before : Parts) (p : Progress) (s
       let c : at + size - at ≡ size = omega arith in
       let past : at + t.size ≤ length piece = omega (arith, direct_within k piece at size h.intervals h.line, h.some) in
       record {
+        id = ap (λ r. r.id) h.put;
         line =
             record {
               some = h.some;

@@ -114,9 +114,9 @@ module _ (p : Progress) (raw : Bytes) (l : Line) (before after : Parts) (few : p
       rw (← is, g.0, goes, g.1, id)
 
   pub header_read : (row : Result Progress Verdict) → ((reg : Bytes) → header_says row p.day after ≡ next_row reg (rows_of p before) l)
-      → OnErr row (after ≡ before) → HeaderRead p raw (is_ok row) before after
-  header_read (Ok q) says kept = record { step = λ t reg first n. step-passed q says reg first n; stays = λ f. absurd (apart (sym f)) }
-  header_read (Err v) says kept = record { step = λ t. absurd (apart t); stays = λ f. kept }
+      → OnErr row (after ≡ before) → after.id ≡ before.id → HeaderRead p raw (is_ok row) before after
+  header_read (Ok q) says kept id = record { id = id; step = λ t reg first n. step-passed q says reg first n; stays = λ f. absurd (apart (sym f)) }
+  header_read (Err v) says kept id = record { id = id; step = λ t. absurd (apart t); stays = λ f. kept }
 
 -- ---- THE LINE AT A PLACE
 
@@ -127,6 +127,7 @@ module _ (p : Progress) (piece : Bytes) (at : ℕ) (before : Parts) where
       rw is (
         omega arith,
         record {
+          id = refl;
           line = h.line;
           step = λ reg first n. empty-step (rules_of reg) piece at size h n (takes_rows first (rows_of p before)) ∙ rw z;
         },
@@ -139,6 +140,7 @@ module _ (p : Progress) (piece : Bytes) (at : ℕ) (before : Parts) where
       let e : at + (end - at + 1 - 1) ≡ end = omega (arith, E.none.behind) in (
         omega arith,
         record {
+          id = h.id;
           line = line_at piece at end E inside;
           step = λ reg first n. rw (e, add-one p.read) (h.step t reg first n);
         },

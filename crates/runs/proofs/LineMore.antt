@@ -1,6 +1,6 @@
 -- A line more behind some bytes of a piece, as a step of the scan; and the rows of a record, one line after the other.
 -- Assumes nothing.
-use mathlib.Core.Path.{◌≡◌, sym, ap, ◌∙◌}
+use mathlib.Core.Path.{◌≡◌, refl, sym, ap, ◌∙◌}
 use mathlib.Core.List.{[], ◌∷◌, ◌++◌}
 use mathlib.Core.Bool.{Bool, true, false}
 use Prim.Native.Nat.{ℕ, suc, ◌+◌, ◌-◌, ◌<◌, ◌≤◌}
@@ -67,6 +67,7 @@ unfolding scan_to scan_events
 rows-begin p lines piece at parts few fits =
     let z : at - at ≡ 0 = omega arith in
     record {
+      id = refl;
       behind = omega arith;
       few = few;
       fits = fits;
@@ -81,6 +82,7 @@ pub rows_more : (p : Progress) (lines : ℕ) (piece : Bytes) (at : ℕ) (before 
     → RowsRan p lines piece at before (record { unit = with_read u (u.read + t.rows); lines = n + 1; at = e + t.size; all = all }) after
 rows_more p lines piece at before u n e parts inv all t after few took =
     record {
+      id = took.id ∙ inv.id;
       behind = omega (arith, inv.behind);
       few = few;
       fits = record { within = took.line.within; fits = omega (arith, inv.fits.fits, took.line.within, took.line.some) };
@@ -113,6 +115,7 @@ pub rows_then : (p : Progress) (lines : ℕ) (piece : Bytes) (at : ℕ) (before 
     → RowsRan r.unit r.lines piece r.at parts q after → RowsRan p lines piece at before q after
 rows_then p lines piece at before r parts a more q after b =
     record {
+      id = b.id ∙ a.id;
       behind = omega (arith, a.behind, b.behind);
       few = b.few;
       fits = b.fits;

@@ -1,6 +1,6 @@
 -- A run over the lines of a unit, whichever unit it is.
 -- Assumes nothing.
-use mathlib.Core.Path.{◌≡◌}
+use mathlib.Core.Path.{◌≡◌, refl}
 use Prim.Native.Nat.{ℕ, ◌-◌}
 use native.Mathlib.Omega.{arith}
 use Rattle.text.specs.Byte.{Bytes}
@@ -18,9 +18,9 @@ module _ (unit : KeptUnit) (lines held : ℕ) (piece : Bytes) (at : ℕ) (before
   passes-rows first p h z q after ran e =
       rw (z, h, e)
       (record {
+        id = ran.id;
         behind = ran.behind;
-        within = ran.fits.within;
-        fits = ran.fits.fits;
+        fits = ran.fits;
         reaches = λ reg kept. ran.reaches reg first;
         tells = λ reg kept. ran.tells reg first;
       })
@@ -29,9 +29,9 @@ module _ (unit : KeptUnit) (lines held : ℕ) (piece : Bytes) (at : ℕ) (before
   passes-skips h z ran =
       rw (z, h)
       (record {
+        id = refl;
         behind = ran.behind;
-        within = ran.fits.within;
-        fits = ran.fits.fits;
+        fits = ran.fits;
         reaches = λ reg kept. rw ran.skipped (ran.reaches reg);
         tells = λ reg kept. rw ran.skipped (ran.quiet reg);
       })
@@ -42,8 +42,8 @@ module _ (unit : KeptUnit) (lines held : ℕ) (piece : Bytes) (at : ℕ) (before
       let z : at - at ≡ 0 = omega arith in
       rw e
       (record {
+        id = refl;
         behind = omega arith;
-        within = asks.within;
         fits = asks.fits;
         reaches = λ reg kept. rw z;
         tells = λ reg kept. rw z;

@@ -44,6 +44,7 @@ with_read p read = record { read = read; due = p.due; day = p.day; channel = p.c
 
 -- a header row: one that passes is the step of its line, any other leaves what is lent as it was
 pub record HeaderRead (p : Progress) (raw : Bytes) (passes : Bool) (before after : Parts) : Type 0 where
+  pub id : after.id ≡ before.id
   pub step : passes ≡ true → (reg : Bytes) (first n : ℕ)
       → step_line (rules_of reg) n (ended_line raw) (takes_rows first (rows_of p before))
       ≡ record { unit = takes_rows first (rows_of (one_more p) after); events = [] }
@@ -62,6 +63,7 @@ pub record RowPut (k : ℕ) (s : Bytes) (size : ℕ) (before after : Parts) : Ty
 
 -- the line at a place was taken: it is a row of the record, the day's last if `all` says so, or an empty line
 pub record Took (all : Bool) (p : Progress) (piece : Bytes) (at : ℕ) (before : Parts) (t : Taken) (after : Parts) : Type 0 where
+  pub id : after.id ≡ before.id
   pub line : LineAt piece at t.size
   pub step : (reg : Bytes) (first n : ℕ)
       → step_line (rules_of reg) n (ended_line (between at (at + (t.size - 1)) piece)) (takes_rows first (rows_of p before))
@@ -86,8 +88,9 @@ DetailTaken k piece at before r after = MatchOption r (after ≡ before) (λ t. 
 abbrev pub rows_to : Progress → ℕ → ℕ → ℕ → Bool → Passed Progress
 rows_to p read lines at all = record { unit = with_read p read; lines = lines; at = at; all = all }
 
--- rows read from a place on, with what they leave of the record; nothing is said but what the registry checks say, if the day's last row is in
+-- rows read from a place on, with what they leave of the record, its ESI ID as it was; nothing is said but what the registry checks say, if the day's last row is in
 pub record RowsRan (p : Progress) (lines : ℕ) (piece : Bytes) (at : ℕ) (before : Parts) (r : Passed Progress) (after : Parts) : Type 0 where
+  pub id : after.id ≡ before.id
   pub behind : at ≤ r.at
   pub few : Few r.unit
   pub fits : FitsFrom r.lines piece r.at
@@ -123,15 +126,15 @@ passed_rows first r = record { unit = Takes first r.unit; lines = r.lines; at = 
 
 -- what a run is asked with
 pub record Asks (unit : KeptUnit) (lines : ℕ) (piece : Bytes) (at : ℕ) (r : Parts) : Type 0 where
-  pub within : at ≤ length piece
-  pub fits : lines + (length piece - at) ≤ byte_limit
+  pub fits : FitsFrom lines piece at
   pub details : details_in (unit_of unit r) ≤ max_details
 
--- lines from a place on, of the first of which so many bytes are held: what they do to the scan, once a record whose rows are all in is judged
+-- lines from a place on, of the first of which so many bytes are held: what they do to the scan, once a record whose rows are all in is judged. None
+-- of them is a row one, so that the ESI ID stays
 pub record Passes (unit : KeptUnit) (lines held : ℕ) (piece : Bytes) (at : ℕ) (before : Parts) (r : Passed KeptUnit) (after : Parts) : Type 0 where
+  pub id : after.id ≡ before.id
   pub behind : at ≤ r.at
-  pub within : r.at ≤ length piece
-  pub fits : r.lines + (length piece - r.at) ≤ byte_limit
+  pub fits : FitsFrom r.lines piece r.at
   pub reaches : (reg kept : Bytes)
       → scan_to (rules_of reg) (scan (take held kept) lines (unit_of unit before)) (between at r.at piece)
       ≡ scan (take held kept) r.lines (judged_if r.all reg r.lines (unit_of r.unit after)).unit

@@ -56,7 +56,8 @@ fn behind_rows(first: u32, r: Passed<Progress>) -> Passed<Unit>
     }
 }
 
-// The lines from a place of the piece on that go by in a run; of the line there, so many bytes are held.
+// The lines from a place of the piece on that go by in a run; of the line there, so many bytes are held. Unit, line count and place come one by one, and
+// leave as `Passed`: what comes in has no `all`.
 pub fn run_over(
     unit: Unit,
     lines: u32,

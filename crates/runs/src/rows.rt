@@ -11,7 +11,8 @@ use lines::end::{empty_line, line_end};
 use lines::line::Line;
 use records::{HEADER_ROWS, MAX_DETAILS, Parts, Progress, put_intervals, row_header};
 
-// A line that was taken: how many bytes it has, its LF included, and how many rows it is, none for an empty line.
+// A line that was taken: how many bytes it has, its LF included, and how many rows it is, 0 for an empty line. The 0 is no flag: it is added to how many
+// rows are read.
 #[derive(Clone, Copy)]
 pub struct Taken {
     pub size: usize,
@@ -43,10 +44,7 @@ fn take_header(p: Progress, piece: &[u8], at: usize, parts: &mut Parts) -> Optio
     if let Some(size) = empty_line(piece, at) {
         return Some(empty(size));
     }
-    let end = line_end(piece, at);
-    if end == piece.len() {
-        return None;
-    }
+    let end = line_end(piece, at)?;
     if header_row(p, &piece[at..end], parts) {
         return Some(Taken {
             size: end - at + 1,
@@ -56,7 +54,8 @@ fn take_header(p: Progress, piece: &[u8], at: usize, parts: &mut Parts) -> Optio
     None
 }
 
-// Header rows from the place where a line begins, as many as stand whole in the piece and pass.
+// Header rows from the place where a line begins, as many as stand whole in the piece and pass. A `while`, as in `read_details`: a step may take an empty
+// line, which is no row.
 fn read_headers(
     p: Progress,
     lines: u32,

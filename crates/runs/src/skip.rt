@@ -22,13 +22,9 @@ pub fn skip_lines(lines: u32, piece: &[u8], at: usize) -> Passed<Unit>
 {
     let mut n = lines;
     let mut e = at;
-    while e < piece.len() {
-        let end = line_end(piece, e);
-        if end == piece.len() {
-            return gone_by(Unit::Skips, n, e);
-        }
+    while let Some(end) = line_end(piece, e) {
         if !is_skipped(&piece[e..end]) {
-            return gone_by(Unit::Skips, n, e);
+            break;
         }
         e = end + 1;
         n += 1;

@@ -1,4 +1,4 @@
-// Classes of bytes, and texts compared.
+// Classes of bytes, and texts compared: std's methods, in the words of the definitions that all rows cite.
 ghost use Rattle.std.specs.Prelude.{◌≡◌, Bool, length};
 ghost use Rattle.text.specs.Byte.{is_digit, is_alnum, is_empty, every, equals, starts_with};
 

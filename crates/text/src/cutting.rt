@@ -32,7 +32,7 @@ impl<'a> Fields<'a> {
         Fields { rest: Some(line) }
     }
 
-    // The next field, which is there.
+    // The next field, which is there. No `Iterator`: a row's number of fields is tested before they are taken, and an Option would be refused again.
     pub fn next(&mut self) -> &'a [u8]
         requires { 0 < length self.old }
         ensures taken { self.old ≡ result.now ∷ self.new }

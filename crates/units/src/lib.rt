@@ -153,7 +153,7 @@ pub fn settle(first: u32, n: u32, row: Result<After, Fault>, day: u32) -> Steppe
     }
 }
 
-// A stray run begins at line n.
+// A stray run begins at line n. It has no day: 0, as in the entry.
 fn stray(n: u32) -> Stepped
     ensures { result ≡ stray_from n }
 {
@@ -178,7 +178,7 @@ fn quiet(unit: Unit) -> Stepped
     Stepped { unit, said: None }
 }
 
-// An opener is row one of a new unit.
+// An opener is row one of a new unit. One that is refused has no day: 0, as in the entry.
 fn open(n: u32, line: Line<'_>, parts: &mut Parts) -> Stepped
     ensures { Reads (settles n n (first_row (line_of line.entry))) (unit_of result.unit parts.new) (told result.said) }
 {

@@ -6,7 +6,7 @@ use mathlib.Core.Bool.{Bool, true, false, ◌&&◌, ◌||◌}
 use Prim.Native.Nat.{ℕ, ◌+◌, ◌-◌, ◌≤◌, ◌<◌}
 use native.Mathlib.Omega.{arith}
 use lib.Dec.{eqb, leb}
-use lib.ListN.{length, take, drop, get_or, length-drop, take-append-drop}
+use lib.ListN.{length, take, drop, get_or, length-append, length-drop, take-append-drop}
 use lib.Pointwise.{pointwise}
 use denote.Ref.{Bor}
 use lib.Seq.{drop-drop, length-take-le}
@@ -96,31 +96,27 @@ three_usual line (Some d) m q e h cr = three_made line d.now (strip_prefix_is De
 
 -- ---- ROW FOUR
 
-time_clean : (f : Bytes) (t : Time) → passed t ≡ time_of f → every is_digit f ≡ true
+time_right : (f : Bytes) (t : Time) → passed t ≡ time_of f → (length f ≡ time_size) × (every is_digit f ≡ true)
 unfolding time_of is_time
-time_clean f t e =
+time_right f t e =
     let p = then_passed (require (is_time f) misfit) t (passed (record { date = date_text f; clock = clock_text f })) (sym e) in
-    and_each (eqb (length f) time_size) (every is_digit f ∷ is_date (date_text f) ∷ is_clock (clock_text f) ∷ []) (require-passed (is_time f) misfit p.0 p.1) 1
+    let all = and_each (eqb (length f) time_size) (every is_digit f ∷ is_date (date_text f) ∷ is_clock (clock_text f) ∷ []) (require-passed (is_time f) misfit p.0 p.1) in
+    (eqb-true (length f) time_size (all 0), all 1)
 
-module _ (line : Bytes) (size : length line ≡ 25) (p q : Bool) (ep : p ≡ starts_with (ascii "00000004,") line)
-    (eq : q ≡ equals (take (length line - 23) (drop 23 line)) (ascii ",M")) (shaped : (p && q) ≡ true)
-    (t : Time) (stamp : passed t ≡ time_of (take 14 (drop 9 line))) where
-  four-made : line ≡ ascii "00000004," ++ (take 14 (drop 9 line) ++ ascii ",M")
-  four-made =
-      first line _ (sym ep ∙ and_left p q shaped)
-      (part line 9 14
-      (sym (left-whole line 23) ∙ equals_path _ _ (sym eq ∙ and_right p q shaped)))
-
-  four-cut : cut (ascii "00000004," ++ (take 14 (drop 9 line) ++ ascii ",M")) ≡ ascii "00000004" ∷ take 14 (drop 9 line) ∷ ascii "M" ∷ []
+module _ (line f : Bytes) (made : line ≡ ascii "00000004," ++ (f ++ ascii ",M")) (t : Time) (stamp : passed t ≡ time_of f) where
+  four-cut : cut (ascii "00000004," ++ (f ++ ascii ",M")) ≡ ascii "00000004" ∷ f ∷ ascii "M" ∷ []
   unfolding every
   four-cut =
       cut_field (ascii "00000004") _ _ refl
-      (cut_field (take 14 (drop 9 line)) _ _ (digits-no-comma (take 14 (drop 9 line)) (time_clean (take 14 (drop 9 line)) t stamp))
+      (cut_field f _ _ (digits-no-comma f (time_right f t stamp).1)
       (cut-alone (ascii "M") refl))
 
   pub four_usual : (cr : Bool) → passed (record { date = t.date; clock = t.clock }) ≡ row_four (line_with line cr)
   unfolding row_four four_of stamp_of equals
-  four_usual cr = sym (rw (usual_fields line (ascii "00000004") _ cr (omega arith) (ap cut four-made ∙ four-cut), ← stamp))
+  four_usual cr =
+      let size : length f ≡ time_size = (time_right f t stamp).0 in
+      let short : length line < line_limit = rw made (simp length-append (omega arith)) in
+      sym (rw (usual_fields line (ascii "00000004") _ cr short (ap cut made ∙ four-cut), ← stamp))
 
 -- ---- ROW THIRTY
 

@@ -8,31 +8,18 @@ ghost use Rattle.usual.specs.Answer.{UsualFourSays};
 use headers::time::{Stamp, read_time};
 use lines::line::Line;
 use report::verdict::Verdict;
-use text::bytes::{begins, same};
 
-// Row four as nearly every file has it: `00000004,YYYYMMDDHHMMSS,M`, whose parts stand at known places.
-const USUAL_SIZE: usize = 25;
-
+// Row four as nearly every file has it: `00000004,YYYYMMDDHHMMSS,M`. All between these two is the stamp.
 const USUAL_HEAD: [u8; 9] = *b"00000004,";
 
 const USUAL_TAIL: [u8; 2] = *b",M";
-
-const STAMP_AT: usize = 9;
-
-const STAMP_END: usize = 23;
 
 // The stamp of a usual row four; any other line is for `headers`.
 fn usual_four(line: &[u8]) -> Option<Stamp>
     ensures { (cr : Bool) → UsualFourSays result (line_with line.now cr) }
 {
-    if line.len() != USUAL_SIZE {
-        return None;
-    }
-    let shaped = begins(line, &USUAL_HEAD) & same(&line[STAMP_END..], &USUAL_TAIL);
-    if !shaped {
-        return None;
-    }
-    let time = read_time(&line[STAMP_AT..STAMP_END]).ok()?;
+    let stamp = line.strip_prefix(&USUAL_HEAD)?.strip_suffix(&USUAL_TAIL)?;
+    let time = read_time(stamp).ok()?;
     Some(Stamp::from(time))
 }
 

@@ -18,16 +18,19 @@ pub loop-at-init : goal.loop-at-init
 loop-at-init g c = (begins _ _ _ _ _ _ _ (rw (← c.room.ensures) c.in_ok-index.ensures.number) c.admit.ensures.kept _ refl, c.in_ok-index.ensures.index)
 
 pub put-requires : goal.put-requires
-put-requires g c = fits _ _ _ _ _ _ _ _ _ _ _ _ c.loop-at.invariant.0 _ (record { scan = c.next_batch-next.new.scan; taken = c.loop-at.state.taken }) _ _ (rw c.loop-at.invariant.1 at c.next_batch-next.ensures.read)
+put-requires g c = fits _ _ _ _ _ _ _ _ _ _ _ _ c.loop-at.invariant.0 _ (record { scan = c.read_lines-next.new.scan; taken = c.loop-at.state.taken }) _ _ (rw c.loop-at.invariant.1 at c.read_lines-next.ensures.ran)
 
 pub overflow_add-count : goal.overflow_add-count
-overflow_add-count g c = omega (arith, c.count-count.ensures.0, few _ _ _ _ _ _ _ _ _ _ _ _ c.loop-at.invariant.0 _ (record { scan = c.next_batch-next.new.scan; taken = c.loop-at.state.taken }) _ _ (rw c.loop-at.invariant.1 at c.next_batch-next.ensures.read))
+overflow_add-count g c = omega (arith, c.count-count.ensures.0, few _ _ _ _ _ _ _ _ _ _ _ _ c.loop-at.invariant.0 _ (record { scan = c.read_lines-next.new.scan; taken = c.loop-at.state.taken }) _ _ (rw c.loop-at.invariant.1 at c.read_lines-next.ensures.ran))
 
 pub loop-at-preserved : goal.loop-at-preserved
 loop-at-preserved g c = (
-  rw c.count-count.ensures.0 (steps _ _ _ _ _ _ _ _ _ _ _ _ c.loop-at.invariant.0 _ _ _ _ (rw c.loop-at.invariant.1 at c.next_batch-next.ensures.read) _ c.put.ensures.entered c.put.ensures.behind refl (search rules)),
-  c.next_batch-next.ensures.index ∙ c.loop-at.invariant.1,
+  rw c.count-count.ensures.0 (steps _ _ _ _ _ _ _ _ _ _ _ _ c.loop-at.invariant.0 _ _ _ _ (rw c.loop-at.invariant.1 at c.read_lines-next.ensures.ran) _ c.put.ensures.entered c.put.ensures.behind refl (search rules)),
+  c.read_lines-next.ensures.index ∙ c.loop-at.invariant.1,
 )
+
+pub loop-at-smaller : goal.loop-at-smaller
+loop-at-smaller g c = omega (arith, c.read_lines-next.ensures.ran.moved c.loop-at-test.true, c.read_lines-next.ensures.ran.within)
 
 pub returns : goal.returns
 returns g c =

@@ -2,17 +2,32 @@
 -- Assumes nothing.
 use mathlib.Core.Path.{◌∙◌}
 use Rattle.report.proofs.Passing.{bind-exit}
-use Rattle.lines.proofs.Begin.{begun-due}
-use Rattle.headers.specs.One.{row_one}
+use Rattle.headers.specs.One.{one_of, row_one}
 use Rattle.headers.proofs.one.read_one.Goals as goal
 
-pub returns-in_err-begin : goal.returns-in_err-begin
+pub returns-in_err-fields : goal.returns-in_err-fields
 unfolding row_one
-returns-in_err-begin c = bind-exit _ _ _ c.from_residual.ensures.1 ∙ rw (← c.in_err-begin.ensures)
+returns-in_err-fields c = bind-exit _ _ _ c.from_residual.ensures.1 ∙ rw (← c.in_err-fields.ensures)
 
-pub read_fields-requires : goal.read_fields-requires
-read_fields-requires c = (begun-due _ _ _ c.in_ok-begin.ensures).count
+pub returns-in_err-require : goal.returns-in_err-require
+unfolding one_of row_one
+returns-in_err-require c =
+    bind-exit _ _ _ c.from_residual-in_err-require.ensures.1
+    ∙ rw (← c.in_ok-fields.ensures, c.next.ensures.taken, c.next-id.ensures.taken, c.next-third.ensures.taken, c.next-start.ensures.taken, c.next-stop.ensures.taken, c.next-yes.ensures.taken, c.next-no.ensures.taken, ← c.is_esi_id.ensures, ← c.in_err-require.ensures)
+
+pub returns-in_err-channel : goal.returns-in_err-channel
+unfolding one_of row_one
+returns-in_err-channel c =
+    bind-exit _ _ _ c.from_residual-in_err-channel.ensures.1
+    ∙ rw (← c.in_ok-fields.ensures, c.next.ensures.taken, c.next-id.ensures.taken, c.next-third.ensures.taken, c.next-start.ensures.taken, c.next-stop.ensures.taken, c.next-yes.ensures.taken, c.next-no.ensures.taken, ← c.is_esi_id.ensures, ← c.in_ok-require.ensures, ← c.in_err-channel.ensures)
+
+pub returns-in_err-day : goal.returns-in_err-day
+unfolding one_of row_one
+returns-in_err-day c =
+    bind-exit _ _ _ c.from_residual-in_err-day.ensures.1
+    ∙ rw (← c.in_ok-fields.ensures, c.next.ensures.taken, c.next-id.ensures.taken, c.next-third.ensures.taken, c.next-start.ensures.taken, c.next-stop.ensures.taken, c.next-yes.ensures.taken, c.next-no.ensures.taken, ← c.is_esi_id.ensures, ← c.in_ok-require.ensures, ← c.in_ok-channel.ensures, ← c.in_err-day.ensures)
 
 pub returns : goal.returns
-unfolding row_one
-returns c = rw (← c.in_ok-begin.ensures) c.read_fields.ensures
+unfolding one_of row_one
+returns c =
+    rw (← c.in_ok-fields.ensures, c.next.ensures.taken, c.next-id.ensures.taken, c.next-third.ensures.taken, c.next-start.ensures.taken, c.next-stop.ensures.taken, c.next-yes.ensures.taken, c.next-no.ensures.taken, ← c.is_esi_id.ensures, ← c.in_ok-require.ensures, ← c.in_ok-channel.ensures, ← c.in_ok-day.ensures)

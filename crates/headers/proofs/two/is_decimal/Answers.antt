@@ -9,7 +9,7 @@ pub returns-in-empty : goal.returns-in-empty
 returns-in-empty c = decimal-whole _ _ c.digits-w.ensures _ c.behind.ensures c.in-empty.len_below
 
 pub returns-in-46 : goal.returns-in-46
-returns-in-46 c = decimal-point _ _ c.digits-w.ensures _ c.behind.ensures c.in-46.len_at_least (search rules) _ _ c.all_digits.ensures refl
+returns-in-46 c = decimal-point _ _ c.digits-w.ensures _ c.behind.ensures c.in-46.len_at_least (search rules) _ _ c.up_to_digits.ensures refl
 
 pub returns-in_default : goal.returns-in_default
 returns-in_default c = decimal-odd _ _ c.digits-w.ensures _ c.behind.ensures c.in_default.len_at_least (search rules)

@@ -1,44 +1,26 @@
 -- `padded::order::compare` meets its contract.
 -- Assumes nothing.
-use mathlib.Core.Path.{◌≡◌, refl, ◌∙◌}
-use native.Mathlib.Omega.{arith}
-use lib.ListN.{drop}
-use Rattle.padded.specs.Order.{order}
-use Rattle.padded.proofs.Words.{small-drop, eight_decide, eight_level, none_left}
+use mathlib.Core.Path.{◌∙◌}
+use mathlib.Core.Logic.{⊎_elim, inl, inr}
+use Rattle.padded.proofs.Words.{texts_order, words_none, words_decide, words_level}
 use Rattle.padded.proofs.order.compare.Goals as goal
 
 pub loop-a-init : goal.loop-a-init
-loop-a-init c = record {
-  level = refl;
-  sizes = omega arith;
-  whole = omega arith;
-  small_left = λ k. (c.type_inv.s k).fits;
-  small_right = λ k. (c.type_inv.t k).fits;
-}
-
-pub returns-in_default-cmp : goal.returns-in_default-cmp
-returns-in_default-cmp c =
-    let inv = c.loop-a.invariant in
-    let h = c.in-Some-Some.ensures.cases in
-    eight_decide _ _ inv.small_left inv.small_right inv.sizes _ _ h.0 c.in-Some-Some.ensures'.cases.0 (omega arith) _ _ c.from_be_bytes.ensures c.from_be_bytes-in-Some-Some.ensures _ c.cmp.ensures c.in_default-cmp.not-Equal
-    ∙ inv.level
+loop-a-init c =
+    let zip = c.into_iter-a-iterator.result in
+    let zipped = c.into_iter-a-iterator.ensures.into_iter_gives in
+    texts_order _ _ zip.a.rest.now zip.b.rest.now c.told-s c.told-t c.fits-s c.fits-t
+    (rw (zipped, c.zip-a-items.ensures.first, c.iter.ensures.rest) c.as_chunks.ensures.front) (rw (zipped, c.zip-a-items.ensures.second.0) c.as_chunks-2.ensures.front)
 
 pub loop-a-preserved : goal.loop-a-preserved
 loop-a-preserved c =
-    let inv = c.loop-a.invariant in
-    let h = c.in-Some-Some.ensures.cases in
-    let k = c.in-Some-Some.ensures'.cases in
-    let level : order (drop 8 c.loop-a.left.now) (drop 8 c.loop-a.right.now) ≡ order c.args.s.now c.args.t.now =
-    eight_level _ _ inv.small_left inv.small_right inv.sizes _ _ h.0 k.0 (omega arith) _ _ c.from_be_bytes.ensures c.from_be_bytes-in-Some-Some.ensures _ c.cmp.ensures c.in-Equal.is ∙ inv.level in
-    record {
-      level = cc;
-      sizes = omega arith;
-      whole = omega arith;
-      small_left = rw h.1 (small-drop 8 _ inv.small_left);
-      small_right = rw k.1 (small-drop 8 _ inv.small_right);
-    }
+    let next = c.in-Some.ensures.steps in
+    words_level c.loop-a.invariant _ _ _ _ next.0 next.1 _ _ c.from_be_bytes.ensures c.from_be_bytes-in-loop-a.ensures _ c.cmp.ensures c.in-Equal.is
 
-pub returns-in_default-2 : goal.returns-in_default-2
-returns-in_default-2 c =
-    let inv = c.loop-a.invariant in
-    none_left _ _ inv.sizes inv.whole c.in_default.ensures.cases ∙ inv.level
+pub returns-in_default : goal.returns-in_default
+returns-in_default c =
+    let next = c.in-Some.ensures.steps in
+    words_decide c.loop-a.invariant _ _ _ _ next.0 next.1 _ _ c.from_be_bytes.ensures c.from_be_bytes-in-loop-a.ensures _ c.cmp.ensures c.in_default.not-Equal
+
+pub returns : goal.returns
+returns c = words_none _ _ (⊎_elim (λ x. inl x.1.0) (λ x. inr x.1.0) c.in-None.ensures.steps) ∙ c.loop-a.invariant

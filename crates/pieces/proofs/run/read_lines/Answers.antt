@@ -9,7 +9,7 @@ use Rattle.pieces.proofs.Moving.{comes_first, comes_run, comes_line, comes_end, 
 use Rattle.pieces.proofs.run.read_lines.Goals as goal
 
 pub loop-scan-init : goal.loop-scan-init
-loop-scan-init c = (comes_first _ _ _ _ _ c.requires.holds c.requires.within _ c.requires.empty, refl, rw c.requires.empty (omega arith), refl)
+loop-scan-init c = (comes_first _ _ _ _ _ c.requires.holds c.requires.within _ c.new-batch.ensures, refl, rw c.new-batch.ensures (omega arith), refl)
 
 pub loop-scan-preserved : goal.loop-scan-preserved
 loop-scan-preserved c =
