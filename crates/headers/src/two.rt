@@ -65,7 +65,7 @@ fn is_decimal(f: &[u8]) -> bool
     }
 }
 
-// 1 to n digits.
+// 1 to n digits, as its definition is written; so is `is_name` (text), of 1 to n letters or digits.
 fn up_to_digits(f: &[u8], n: usize) -> bool
     ensures { result ≡ up_to_digits n f.now }
 {
