@@ -55,7 +55,7 @@ pub fn for_table(index: &Index<'_>, size: usize) -> Result<(), Refusal>
     require(cells * Cell::WIDTH <= size, Refusal::ShortTable)
 }
 
-// 6: the cell at an address.
+// 6: the cell at an address. Index, table and address go on through 7 and 8, each of which calls the one before; a struct of them would be made for one call.
 pub fn find_cell<'a>(index: &Index<'_>, table: &'a [u32], at: Address) -> Result<&'a Words, Refusal>
     ensures { cell_says result ≡ cell_for index.now table.now at.meter at.channel at.day }
 {

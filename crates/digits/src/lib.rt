@@ -86,6 +86,7 @@ impl<const N: usize> Text<N> {
         N - self.end
     }
 
+    // Room is asked by each that puts, since each puts other bytes.
     pub fn put(&mut self, text: &[u8])
         requires { length self.old + length text.now ≤ N }
         ensures { self.new ≡ self.old ++ text.now }

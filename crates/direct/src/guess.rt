@@ -20,7 +20,8 @@ const POINTS: u64 = 0x2e2e2e2e2e2e2e2e;
 
 const ZEROS: u64 = 0x3030303030303030;
 
-// Where the word first has the byte that the pattern repeats; 8 if nowhere. c has its first zero byte there, and m its lowest bit: taking
+// Where the word first has the byte that the pattern repeats; 8 if nowhere, which is no flag: a guess is tested by what reads on from it, and 8 is the
+// word's end. c has its first zero byte there, and m its lowest bit: taking
 // one from each byte of c turns a zero into 255, and sets no top bit before it that c has not.
 fn guess(word: u64, pattern: u64) -> usize
     ensures { result ≤ word_size }

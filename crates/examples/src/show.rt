@@ -9,7 +9,7 @@ use lines::line::Line;
 use report::verdict::Verdict;
 use std::io;
 
-// What a row's reader answers: 0 for a row that passes, else its verdict.
+// What a row's reader answers, to be printed: 0 for a row that passes, else its verdict.
 fn answer<T>(read: &Result<T, Verdict>) -> u32 {
     match read {
         Ok(_) => 0,

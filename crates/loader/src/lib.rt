@@ -9,6 +9,7 @@
 //
 // For whoever changes it: `feed` counts bytes and entries, and passes all else on. What is refused is state's `admit`, the work is in pieces' `read_lines` and
 // batches' `end_file`, over words and not over entries; `Slot::put` puts a batch into the report. The laws that their proofs cite are proofs/Batching.antt's.
+// State, registry, table and report are C's parameters, in its order.
 #![tactic(auto)]
 
 ghost use Rattle.std.specs.Prelude.{◌≡◌};

@@ -30,7 +30,7 @@ const MOST_PIECES: usize = 1 + BYTE_LIMIT / PIECE_SIZE;
 
 const REGISTRY_SIZE: usize = 262_144;
 
-// Feeds standard input piece by piece, and finishes.
+// Feeds standard input piece by piece, and finishes, as vectors does with its cases.
 fn load(rt: &(impl Input + Print), registry: &[u8]) -> Result<(), Stop> {
     let mut reader = rt.reader();
     let mut table = [0; TABLE_WORDS];

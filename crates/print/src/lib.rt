@@ -19,7 +19,8 @@ pub fn heading(rt: &impl Print, name: &str) -> io::Result<()> {
     println!(rt; "# {name}")
 }
 
-// What a call answers: its number, and what it counted, 0 where it is refused. A refusal has no Display: report knows no text.
+// What a call answers: its number, and what it counted, 0 where it is refused. A refusal has no Display: it is printed in two places,
+// here and in `ended`, each by `From`.
 #[derive(Drop)]
 pub struct Answer<T>(pub Result<T, Refusal>);
 

@@ -144,6 +144,7 @@ fn row_thirty(p: Progress, line: Line<'_>, parts: &mut Parts) -> Result<Progress
 }
 
 // Rows two, three, four and thirty, by how many were read behind row one. One that is refused leaves what is lent as it was.
+// That fewer than four were read says that one of these is due.
 pub fn row_header(p: Progress, line: Line<'_>, parts: &mut Parts) -> Result<Progress, Verdict>
     requires { p.read < header_rows }
     ensures says { (reg : Bytes) → header_says result p.day parts.new ≡ next_row reg (rows_of p parts.old) (line_of line.entry) }
@@ -171,7 +172,7 @@ pub fn check(p: Progress, index: &Index<'_>, parts: &Parts) -> Result<Ready, Fau
     })
 }
 
-// Puts the intervals of detail row k, from 0.
+// Puts the intervals of detail row k, from 0. That k is a row of a cell is what indexing asks.
 pub fn put_intervals(words: &mut Words, k: u32, row: &Row)
     requires { k < max_details }
     ensures { words.new ≡ with_intervals words.old (k * per_row) row.now }

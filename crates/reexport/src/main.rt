@@ -29,7 +29,7 @@ const TEXT: usize = 6000;
 // The words that a report of it must hold, by hand as in lseload.
 const REPORT: usize = PER_ENTRY * (2 + TEXT / 2);
 
-// Meter 0, load, window day 0.
+// Meter 0, load, window day 0. In registries too: in `cells` it would serve no caller of the library.
 const FIRST: Address = Address {
     meter: 0,
     channel: 0,
@@ -79,7 +79,7 @@ fn written(
     Ok(end + length)
 }
 
-// Loads a text in two pieces, the second from the middle of a row on.
+// Loads a text in two pieces, the second from the middle of a row on. It feeds and finishes as vectors does.
 fn load_text(rt: &impl Print, text: &[u8], table: &mut [u32]) -> Result<(), Stop> {
     columns(rt)?;
     let mut report = [0; REPORT];

@@ -12,7 +12,7 @@ use std::io;
 // Room for the cells of each registry here: two meters and 62 days at most.
 const TABLE: usize = 2 * CHANNELS * 62 * Cell::WIDTH;
 
-// Meter 0, load, window day 0.
+// Meter 0, load, window day 0. In reexport too: in `cells` it would serve no caller of the library.
 const FIRST: Address = Address {
     meter: 0,
     channel: 0,

@@ -15,6 +15,7 @@ const PER_KWH: u32 = 1000;
 // The digits of a row's number in its code.
 const ROW_DIGITS: usize = 2;
 
+// A value below 1,000 MWh is asked where it is written, and is no invariant of `Interval`: a cell takes one with any number.
 #[tactic(auto, using(crate::proofs::Texts::value_parts))]
 pub fn put_value<const N: usize>(text: &mut Text<N>, wh: u32)
     requires wh_lt_value_end { wh < value_end }

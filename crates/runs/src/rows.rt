@@ -108,6 +108,7 @@ fn rows_read(p: Progress, read: u32, lines: u32, at: usize, all: bool) -> Passed
 }
 
 // Detail rows from the place where a line begins, as many as read directly: no more than the day has, nor than a cell has room for.
+// It is no one loop with `read_headers`: what is taken, and what is known of it, is another.
 // Tried: one value that is updated, as in `read_headers`. The loop that the compiler makes of it puts a word together from halves in each row, and
 // large loads are 1 to 3 percent slower.
 fn read_details(

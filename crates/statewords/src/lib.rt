@@ -5,7 +5,7 @@
 //
 // specs/Layout.antt says which words are which part. Whatever the words hold, they are some state.
 //
-// No `From`: unit, scan and words are types of other crates.
+// No `From`: channel, unit, scan and words are types of other crates.
 //
 // For whoever changes it: what `put_state` writes is read back as the same state, so a part that moves, moves in both and in specs/Layout.antt.
 #![tactic(auto)]

@@ -110,6 +110,7 @@ quietly unit = record { unit = unit; said = Nothing }
 
 -- ---- THE TABLE
 
--- the table has room for the registry's cells; it ties two lent values, so no type says it
+-- the table has room for the registry's cells; it ties two lent values, so no type says it: a struct of both would hold the table as a `&mut`, to be
+-- taken apart to see the table again
 abbrev pub HasRoom : Bytes → Words → Type 0
 HasRoom reg table = table_size reg ≤ length table

@@ -16,6 +16,7 @@ use std::rt::Files;
 mod cases;
 mod show;
 
+// As in lseload: two programs, each with a table of a size of its own choice.
 const CELLS: usize = 64;
 
 const TABLE_WORDS: usize = CELLS * Cell::WIDTH;
@@ -36,7 +37,8 @@ fn cells_of(rt: &impl Print, table: &[u32; TABLE_WORDS]) -> io::Result<()> {
     Ok(())
 }
 
-// Feeds a case's file in pieces, and finishes. So do lseload and reexport, each with pieces that come otherwise; print, which all stand on, knows no loader.
+// Feeds a case's file in pieces, and finishes. So do lseload and reexport, each with pieces that come otherwise; print, which all stand on, knows no
+// loader, and a crate between for six lines would be no shorter.
 fn replay(rt: &impl Print, case: Case<'_>) -> Result<(), Stop> {
     let mut table = [0; TABLE_WORDS];
     let mut report = [0; REPORT_WORDS];
