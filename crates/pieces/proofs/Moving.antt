@@ -34,9 +34,6 @@ use Rattle.pieces.proofs.Running.{ran-both, ran-none}
 -- ---- A RUN
 
 module _ (s : KeptScan) (piece : Bytes) (at : ℕ) (h : Holds s (length piece - at)) where
-  pub run_asks : at ≤ length piece → Asks s.unit s.lines piece at s.parts
-  run_asks within = record { fits = record { within = within; fits = h.fits }; details = h.details }
-
   module _ (reg : Bytes) (q : Passed KeptUnit) (parts : Parts) (t : Words) (p : Passes s.unit s.lines s.held piece at s.parts q parts) (next : Stepped)
       (j : Reads (judged_if q.all reg q.lines (unit_of q.unit parts)) (unit_of next.unit parts) (told next.said)) where
     -- behind the run

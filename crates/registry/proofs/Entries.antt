@@ -10,10 +10,8 @@ use borrow.Author.Tests.{ne_eqb, lt-leb, le-leb}
 use Rattle.text.specs.Byte.{Bytes}
 use Rattle.text.specs.Identifier.{esi_id_size}
 use Rattle.text.proofs.Left.{left-cons}
-use Rattle.padded.specs.Order.{order, below}
+use Rattle.padded.specs.Order.{below}
 use Rattle.padded.specs.Padding.{is_padded_duns}
-use Rattle.std.specs.declared.cmp.Ordering.{Ordering}
-use Rattle.std.specs.Ordering.{is_lt}
 use Rattle.padded.proofs.Bytewise.{less-some}
 use Rattle.registry.specs.Entry.{owner_size, meter_size, is_meter, entry_kind}
 use Rattle.std.specs.Prelude.{Option, Some, None}
@@ -72,7 +70,3 @@ module _ (reg : Bytes) (at : ℕ) (ha : at + meter_size < length reg) where
   pub first-meter : (last : Option ℕ) → last ≡ None → true ≡ below (bytes_at esi_id_size reg last) (take esi_id_size (drop (at + 1) reg))
   first-meter last e =
       sym (rw (e, less-some (take esi_id_size (drop (at + 1) reg)) (rw (text-length reg at esi_id_size (omega arith)) (omega arith))))
-
-  pub later-meter : (last : Option ℕ) (p : ℕ) → last ≡ Some p → (s t : Bytes) → s ≡ take esi_id_size (drop (p + 1) reg) → t ≡ take esi_id_size (drop (at + 1) reg)
-      → (o : Ordering) → o ≡ order s t → is_lt o ≡ below (bytes_at esi_id_size reg last) (take esi_id_size (drop (at + 1) reg))
-  later-meter last p e s t es et o eo = rw (e, eo, es, et)

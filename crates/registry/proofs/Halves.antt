@@ -8,20 +8,16 @@ use Prim.Native.Nat.{ℕ, zero, suc, ◌+◌, ◌-◌, ◌/◌, ◌≤◌, ◌<�
 use native.Mathlib.Nat.{eq-or-lt_of_le}
 use native.Mathlib.Omega.{arith}
 use lib.Dec.{ltb}
-use lib.ListN.{length, get_or, take, drop}
+use lib.ListN.{length, get_or}
 use borrow.Author.Tests.{ltb-true, ltb-false}
 use Rattle.text.specs.Byte.{Bytes, equals}
-use Rattle.text.specs.Identifier.{esi_id_size}
 use Rattle.text.proofs.Equal.{equals_path}
 use Rattle.padded.specs.Order.{order}
 use Rattle.std.specs.declared.cmp.Ordering.{Ordering}
 use Rattle.std.specs.declared.cmp.Ordering.TheVariants.{Less, Equal, Greater}
 use Rattle.padded.proofs.Bytewise.{equal_by, flipped, order_trans}
-use Rattle.registry.specs.Entry.{owner_size, meter_size}
 use Rattle.registry.specs.Registry.{Meter, meters_of}
-use Rattle.registry.specs.Index.{no_meter, no_place, meter_at, Indexes, find_meter, onward}
-use Rattle.registry.specs.declared.entry.Window.{Window}
-use Rattle.registry.specs.declared.Place.{Place}
+use Rattle.registry.specs.Index.{no_meter, meter_at, find_meter, onward}
 use Rattle.std.specs.Prelude.{Option, Some, None}
 use Rattle.registry.proofs.Laws.{meters_ascend}
 
@@ -73,33 +69,6 @@ pub found-only : (reg id : Bytes) (i : ℕ) → i < length (meters_of reg) → e
 found-only reg id i l e =
     let f : (meter_at reg i).id ≡ id = equals_path (meter_at reg i).id id e in
     found_at id (meters_of reg) i l (λ k h. equal_by (meter_at reg k).id id Less (rw f at (meters_ascend reg k i h l))) e
-
--- ---- WHAT AN ENTRY'S BYTES TELL, as the code reads them at a meter's place
-
-module _ (reg : Bytes) (window : Window) (count i : ℕ) (places : List Place) (p : Indexes reg window count places) (h : i < length (meters_of reg)) where
-  below-count : i < count
-  below-count = omega (arith, p.counted)
-
-  pub in-places : i < length places
-  in-places = omega (arith, below-count, p.room)
-
-  pub id-within : (get_or places i no_place).meter + esi_id_size < length reg
-  id-within = omega (arith, (p.meter i below-count).whole)
-
-  pub flags-within : (get_or places i no_place).meter + meter_size < length reg
-  flags-within = omega (arith, (p.meter i below-count).whole)
-
-  pub owner-within : (get_or places i no_place).owner + owner_size < length reg
-  owner-within = omega (arith, (p.owner i below-count).whole)
-
-  pub id-here : take esi_id_size (drop ((get_or places i no_place).meter + 1) reg) ≡ (meter_at reg i).id
-  id-here = sym (p.meter i below-count).id
-
-  pub flags-here : get_or reg ((get_or places i no_place).meter + meter_size) 0 ≡ (meter_at reg i).flags
-  flags-here = sym (p.meter i below-count).flags
-
-  pub owner-here : take owner_size (drop ((get_or places i no_place).owner + 1) reg) ≡ (meter_at reg i).owner
-  owner-here = sym (p.owner i below-count).owner
 
 -- the hint is right
 pub hint_right : (reg : Bytes) (i : ℕ) → i < length (meters_of reg) → (t id : Bytes) → t ≡ (meter_at reg i).id → (r : Bool) → r ≡ equals t id → r ≡ true
