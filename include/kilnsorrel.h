@@ -25,7 +25,8 @@
  *
  * What every call asks: each pointer is to as many elements as the number behind it says, aligned as its type,
  * and not null, also for 0 elements; what a call writes overlaps nothing else that it is given; and no other
- * thread uses it meanwhile. Any contents will do: they are tested, and nothing outside is read or written.
+ * thread uses it meanwhile. Any contents will do: they are tested, and nothing outside is read or written. A call
+ * needs up to KILNSORREL_STACK_BYTES of the stack that it is made on, whatever it is given.
  */
 #ifndef KILNSORREL_H
 #define KILNSORREL_H
@@ -45,7 +46,15 @@ extern "C" {
 #define KILNSORREL_ENTRY_WORDS 5
 
 /* The words that a report must have for a piece of so many bytes; for finish: of 0 bytes. */
-#define KILNSORREL_REPORT_WORDS(bytes) ((2 + (size_t)(bytes) / 2) * KILNSORREL_ENTRY_WORDS)
+#define KILNSORREL_REPORT_WORDS(bytes) (KILNSORREL_REPORT_ENTRIES(bytes) * KILNSORREL_ENTRY_WORDS)
+
+/* The same entry as a struct, for the calls that take a report of entries. */
+typedef struct kilnsorrel_entry {
+    uint32_t first_line, verdict, deciding_line, meter, day;
+} kilnsorrel_entry;
+
+/* The entries that a report must have for a piece of so many bytes; for finish: of 0 bytes. */
+#define KILNSORREL_REPORT_ENTRIES(bytes) (2 + (size_t)(bytes) / 2)
 
 /* The words of a cell. The cell of meter m, channel c (0 load, 1 generation) and window day d, all from 0, in a
  * window of D days begins at word ((m * 2 + c) * D + d) * KILNSORREL_CELL_WORDS of the table. */
@@ -53,6 +62,10 @@ extern "C" {
 
 /* No record that write puts out is longer. */
 #define KILNSORREL_RECORD_BYTES 2000
+
+/* A thread that makes calls needs a stack of so many bytes, besides what the caller's own code uses: feed uses about
+ * 64 KB, the other calls less, and the rest is a margin. */
+#define KILNSORREL_STACK_BYTES ((size_t)128 * 1024)
 
 /* Why a call is refused, in the order of the tests. */
 enum {
@@ -99,6 +112,21 @@ uint64_t kilnsorrel_finish(uint32_t *state, size_t state_words,
                            const uint8_t *registry, size_t registry_len,
                            uint32_t *table, size_t table_words,
                            uint32_t *report, size_t report_words);
+
+/*
+ * kilnsorrel_feed and kilnsorrel_finish with a report of entries, of which there are `report_entries`: all else
+ * is as there, and a file may be streamed by calls of both kinds. Count, refusals and what is written: as there.
+ */
+uint64_t kilnsorrel_feed_entries(uint32_t *state, size_t state_words,
+                                 const uint8_t *piece, size_t piece_len,
+                                 const uint8_t *registry, size_t registry_len,
+                                 uint32_t *table, size_t table_words,
+                                 kilnsorrel_entry *report, size_t report_entries);
+
+uint64_t kilnsorrel_finish_entries(uint32_t *state, size_t state_words,
+                                   const uint8_t *registry, size_t registry_len,
+                                   uint32_t *table, size_t table_words,
+                                   kilnsorrel_entry *report, size_t report_entries);
 
 /*
  * Counts the estimated intervals of the cell of meter, channel and window day, each from 0. Count: these.

@@ -1,8 +1,9 @@
 //! Registries, files, tables and states as they should not come: for the differential test.
 
-use crate::kilnsorrel::{layout, STATE_WORDS};
+use crate::header::STATE_WORDS;
+use crate::kilnsorrel::layout;
 use crate::reference::calendar::{day_date, intervals, DAYS_END};
-use crate::reference::{CLOCK, COUNT, DATE, MARKS, MAX_TAKEN, VALUES, WIDTH};
+use crate::reference::{CELL_WORDS, CLOCK, COUNT, DATE, MARKS, MAX_TAKEN, VALUES};
 use crate::rng::Rng;
 use crate::sample::{self, duns, padded, Meter, Values, World, DIGITS};
 use std::collections::BTreeSet;
@@ -416,7 +417,7 @@ fn any_cell(rng: &mut Rng, cell: &mut [u32]) {
 pub fn table(rng: &mut Rng, w: &World) -> Vec<u32> {
     let mut table = vec![0; w.words() + rng.below(3)];
     let (any, sound) = rng.pick(&[(0, 0), (3, 0), (0, 2), (4, 3)]);
-    for (i, cell) in table.chunks_exact_mut(WIDTH).take(w.cells()).enumerate() {
+    for (i, cell) in table.chunks_exact_mut(CELL_WORDS).take(w.cells()).enumerate() {
         if any > 0 && rng.one_in(any) {
             any_cell(rng, cell);
         } else if sound > 0 && rng.one_in(sound) {
@@ -430,8 +431,10 @@ pub fn table(rng: &mut Rng, w: &World) -> Vec<u32> {
 /// Changes a few words of a cell, some so that it stays sound.
 pub fn spoil(rng: &mut Rng, cell: &mut [u32]) {
     for _ in 0..1 + rng.below(2) {
-        let any = rng.below(WIDTH);
-        let i = rng.pick(&[COUNT, DATE, CLOCK, 5, 6, 98, 99, 102, 103, 106, any]);
+        let any = rng.below(CELL_WORDS);
+        // The last marks, and the values about the last one of a day.
+        let [m, v] = [MARKS + 2, VALUES + 91];
+        let i = rng.pick(&[COUNT, DATE, CLOCK, m, m + 1, v, v + 1, v + 4, v + 5, v + 8, any]);
         let w = cell[i];
         let flipped = w ^ 1 << rng.below(32);
         cell[i] = match i {
@@ -450,7 +453,8 @@ pub fn any_state(rng: &mut Rng) -> [u32; STATE_WORDS] {
     let mut s = [0; STATE_WORDS];
     s.fill_with(|| rng.word() as u32);
     s[..layout::HELD].fill_with(|| rng.pick(BYTES) as u32);
-    s[layout::HELD] = rng.pick(&[0, 1, 45, 200, 201, 201, 202]);
+    let most = layout::LINE_BYTES as u32;
+    s[layout::HELD] = rng.pick(&[0, 1, 45, most - 1, most, most, most + 1]);
     s[layout::HELD + 1] = 0;
     s[layout::TAKEN] = rng.pick(&[1000, 1_000_000, MAX_TAKEN as u32 - 50, MAX_TAKEN as u32]);
     s[layout::TAKEN + 1] = 0;

@@ -1,11 +1,15 @@
 //! Kilnsorrel beside loaders in plain Rust, to compare answers and speed.
 //!
+//! - `header`: the sizes that the C header tells
 //! - `kilnsorrel`: the library's calls, safe to make
 //! - `reference`: an independent fast loader, and document 01's plain loader
 //! - `sample`: registries and files as they come; `hostile`: as they should not
 //! - `rng`: chance that repeats by its seed
+//! - `cases`: the cases of crates/vectors as a text
 #![deny(unsafe_code)]
 
+pub mod cases;
+pub mod header;
 pub mod hostile;
 pub mod kilnsorrel;
 pub mod reference;

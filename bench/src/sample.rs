@@ -3,7 +3,7 @@
 //! records damaged.
 
 use crate::reference::calendar::{day_date, day_number, intervals, DAYS_END};
-use crate::reference::WIDTH;
+use crate::reference::CELL_WORDS;
 use crate::rng::Rng;
 use std::collections::BTreeSet;
 
@@ -88,7 +88,7 @@ impl World {
 
     /// The words that its cells take.
     pub fn words(&self) -> usize {
-        self.cells() * WIDTH
+        self.cells() * CELL_WORDS
     }
 }
 

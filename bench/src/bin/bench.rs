@@ -1,13 +1,15 @@
 //! The speed of the library beside that of the two loaders in Rust, as a table for docs/SPEED.md.
 //!
-//!     cargo run --release --manifest-path bench/Cargo.toml --bin bench [-- [--quick] [--odd] [RUNS]]
+//!     cargo run --release --manifest-path bench/Cargo.toml --bin bench \
+//!         [-- [--quick] [--odd | --reports] [RUNS]]
 //!
 //! Files stand in memory; the table is cleared before each load, outside the time. The loaders take
 //! turns, so that all see the same machine, and medians are shown. What they load is compared too.
-//! `--odd` has files that are not as they should be instead.
+//! `--odd` has files that are not as they should be instead, `--reports` reports of entries beside
+//! reports of words.
 
 use kilnsorrel_bench::kilnsorrel::{self, State};
-use kilnsorrel_bench::reference::{self, MAX_RECORD, WIDTH};
+use kilnsorrel_bench::reference::{self, CELL_WORDS, MAX_RECORD};
 use kilnsorrel_bench::rng::Rng;
 use kilnsorrel_bench::sample::{self, Values, World};
 use kilnsorrel_bench::Entry;
@@ -19,11 +21,15 @@ const DESCRIPTOR: &[u8] = b"EXPORT0001";
 #[derive(Clone, Copy)]
 enum Loader {
     Library,
+    /// The library, with a report of entries.
+    Entries,
     Fast,
     Ordinary,
 }
 
-use Loader::{Fast, Library, Ordinary};
+use Loader::{Entries, Fast, Library, Ordinary};
+
+const ALL: [Loader; 3] = [Library, Fast, Ordinary];
 
 /// What is loaded, and where to.
 struct Job {
@@ -75,6 +81,7 @@ impl Job {
         let start = Instant::now();
         let (entries, loaded) = match by {
             Library => self.run(State::fresh(), size, State::feed, State::finish),
+            Entries => self.run(State::fresh(), size, State::feed_entries, State::finish_entries),
             Fast => self.run(reference::fresh(), size, reference::feed, reference::finish),
             Ordinary => {
                 self.run(reference::fresh(), size, reference::feed_ordinary, reference::finish)
@@ -119,27 +126,28 @@ fn grouped(x: f64) -> String {
     text
 }
 
-/// One line of the table: what was done, how much of it in a second by each, and how the library's
-/// speed stands to the others', turn by turn, since the machine may be busy with other things.
-fn show(what: &str, amount: f64, times: &[Vec<f64>]) {
+/// One line of a table in which so many take part: what was done, how much of it in a second by
+/// each, and how the first one's speed stands to the others', turn by turn, since the machine may be
+/// busy with other things.
+fn show(what: &str, amount: f64, times: &[Vec<f64>], parts: usize) {
     let mut speeds: Vec<String> =
         times.iter().map(|t| grouped(amount / median(t.iter().copied()))).collect();
     let to = |other: &Vec<f64>| median(times[0].iter().zip(other).map(|(a, b)| b / a));
     let mut ratios: Vec<String> = times[1..].iter().map(|t| format!("{:.2}", to(t))).collect();
-    speeds.resize(3, "-".to_string());
-    ratios.resize(2, "-".to_string());
+    speeds.resize(parts, "-".to_string());
+    ratios.resize(parts - 1, "-".to_string());
     println!("| {what} | {} | {} |", speeds.join(" | "), ratios.join(" | "));
 }
 
 /// Megabytes of the file that each loader takes in a second, in pieces of a size.
-fn show_load(what: &str, job: &mut Job, size: usize, runs: usize) {
+fn show_load<const N: usize>(what: &str, job: &mut Job, by: [Loader; N], size: usize, runs: usize) {
     let mut first = None;
-    let times: [Vec<f64>; 3] = turns(runs, |i| {
-        let (seconds, loaded) = job.load([Library, Fast, Ordinary][i], size);
+    let times: [Vec<f64>; N] = turns(runs, |i| {
+        let (seconds, loaded) = job.load(by[i], size);
         assert_eq!(*first.get_or_insert(loaded), loaded, "the loaders differ");
         seconds
     });
-    show(what, job.file.len() as f64 / 1e6, &times);
+    show(what, job.file.len() as f64 / 1e6, &times, N);
 }
 
 /// Calls that each makes in a second; `call` makes call number i by the library, or else by the
@@ -152,7 +160,7 @@ fn show_calls(what: &str, calls: usize, runs: usize, mut call: impl FnMut(bool, 
         }
         start.elapsed().as_secs_f64()
     });
-    show(what, calls as f64, &times);
+    show(what, calls as f64, &times, ALL.len());
 }
 
 const SIZES: [(usize, &str); 3] = [(4096, "4 KiB"), (65536, "64 KiB"), (1 << 20, "1 MiB")];
@@ -174,7 +182,7 @@ fn loads(rng: &mut Rng, world: &World, realistic: Vec<u8>, runs: usize) -> Vec<u
             job.file = file;
         }
         for (size, pieces) in SIZES {
-            show_load(&format!("load, {name}, {pieces}, MB/s"), &mut job, size, runs);
+            show_load(&format!("load, {name}, {pieces}, MB/s"), &mut job, ALL, size, runs);
         }
     }
     job.table
@@ -192,15 +200,27 @@ fn odd_loads(rng: &mut Rng, world: &World, realistic: Vec<u8>, runs: usize) {
     let mut job = Job::new(world, realistic);
     for (name, file) in files {
         job.file = file;
-        show_load(&format!("load, {name}, 1 MiB, MB/s"), &mut job, 1 << 20, runs);
+        show_load(&format!("load, {name}, 1 MiB, MB/s"), &mut job, ALL, 1 << 20, runs);
     }
+}
+
+/// The library with a report of entries beside the library with one of words, in pieces of 1 MiB: a
+/// file in which a verdict falls once a record, and one in which it falls at every line.
+fn reports(world: &World, realistic: Vec<u8>, runs: usize) {
+    println!("| | entries | words | entries to words |");
+    println!("|---|---:|---:|---:|");
+    let mut job = Job::new(world, realistic);
+    show_load("load, realistic, 1 MiB, MB/s", &mut job, [Entries, Library], 1 << 20, runs);
+    job.file = b"00000001\n".repeat(9_000_000);
+    let dense = "load, a verdict every nine bytes, 1 MiB, MB/s";
+    show_load(dense, &mut job, [Entries, Library], 1 << 20, runs);
 }
 
 /// Write and Estimates, whole calls on cells spread over the table, and the registry's test by
 /// itself.
 fn calls(world: &World, table: &[u32], calls: usize, runs: usize) {
     let (registry, days) = (&world.registry[..], world.days as usize);
-    let filled: Vec<usize> = (0..world.cells()).filter(|n| table[n * WIDTH] != 0).collect();
+    let filled: Vec<usize> = (0..world.cells()).filter(|n| table[n * CELL_WORDS] != 0).collect();
     let address = |i: usize| {
         let n = filled[i * 7919 % filled.len()];
         (n / days / 2, n / days % 2, n % days)
@@ -235,14 +255,17 @@ fn processor() -> String {
     name.map_or("unknown", |name| name.trim_start_matches(['\t', ' ', ':'])).to_string()
 }
 
+const COLUMNS: &str = "| | Kilnsorrel | fast Rust | ordinary Rust | to fast | to ordinary |\n\
+                       |---|---:|---:|---:|---:|---:|";
+
 fn main() {
-    let (mut days, mut some_calls, mut runs, mut odd) = (62, 4000, 7, false);
+    let (mut days, mut some_calls, mut runs, mut only) = (62, 4000, 7, String::new());
     for word in std::env::args().skip(1) {
         match word.parse() {
             Ok(n) if n > 0 => runs = n,
             _ if word == "--quick" => (days, some_calls) = (6, 500),
-            _ if word == "--odd" => odd = true,
-            _ => panic!("bench [--quick] [--odd] [RUNS]"),
+            _ if word == "--odd" || word == "--reports" => only = word,
+            _ => panic!("bench [--quick] [--odd | --reports] [RUNS]"),
         }
     }
     let rng = &mut Rng::new(1);
@@ -251,9 +274,11 @@ fn main() {
     let size = file.len() as f64 / 1e6;
     println!("Processor: {}. 1,000 meters, {days} days, a file of {size:.1} MB.", processor());
     println!("Medians of {runs} runs. MB are 10^6 bytes.\n");
-    println!("| | Kilnsorrel | fast Rust | ordinary Rust | to fast | to ordinary |");
-    println!("|---|---:|---:|---:|---:|---:|");
-    if odd {
+    if only == "--reports" {
+        return reports(&world, file, runs);
+    }
+    println!("{COLUMNS}");
+    if only == "--odd" {
         return odd_loads(rng, &world, file, runs);
     }
     let table = loads(rng, &world, file, runs);

@@ -2,7 +2,7 @@
 //!
 //! It reads registry.dat and standard input and writes a line for each entry, as document 01 says.
 
-use kilnsorrel_bench::reference::{feed, finish, fresh, WIDTH};
+use kilnsorrel_bench::reference::{feed, finish, fresh, CELL_WORDS};
 use kilnsorrel_bench::Entry;
 use std::io::{self, BufWriter, Read, Write};
 
@@ -22,8 +22,11 @@ fn read_piece(input: &mut impl Read, piece: &mut [u8]) -> io::Result<usize> {
 }
 
 fn main() -> io::Result<()> {
-    let registry = std::fs::read("registry.dat").unwrap_or_default();
-    let mut table = vec![0; CELLS * WIDTH];
+    let registry = match std::fs::read("registry.dat") {
+        Err(error) if error.kind() == io::ErrorKind::NotFound => Vec::new(),
+        read => read?,
+    };
+    let mut table = vec![0; CELLS * CELL_WORDS];
     let mut report = vec![Entry::default(); 2 + PIECE_SIZE / 2];
     let mut piece = vec![0; PIECE_SIZE];
     let mut input = io::stdin().lock();

@@ -50,7 +50,7 @@ pub struct State {
     sender: [u8; 13],
     kept: [u8; MAX_KEPT],
     /// The read as it will stand in its cell.
-    cell: [u32; WIDTH],
+    cell: [u32; CELL_WORDS],
 }
 
 pub fn fresh() -> State {
@@ -72,7 +72,7 @@ pub fn fresh() -> State {
         esi: [0; 64],
         sender: [0; 13],
         kept: [0; MAX_KEPT],
-        cell: [0; WIDTH],
+        cell: [0; CELL_WORDS],
     }
 }
 
@@ -204,7 +204,7 @@ impl Run<'_> {
         let d = self.index.days as usize;
         if (meter as usize) < self.index.meters && (st.window_day as usize) < d && st.channel < 2 {
             let n = (meter as usize * 2 + st.channel as usize) * d + st.window_day as usize;
-            let cell = &mut self.table[n * WIDTH..(n + 1) * WIDTH];
+            let cell = &mut self.table[n * CELL_WORDS..(n + 1) * CELL_WORDS];
             let new = (st.cell[DATE], st.cell[CLOCK]);
             if cell[COUNT] == 0 || new > (cell[DATE], cell[CLOCK]) {
                 cell.copy_from_slice(&st.cell);
@@ -411,7 +411,7 @@ fn tests(
         1
     } else if !index.read(registry) {
         2
-    } else if table.len() < index.cells() * WIDTH {
+    } else if table.len() < index.cells() * CELL_WORDS {
         3
     } else if room < want {
         4

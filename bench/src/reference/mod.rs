@@ -18,8 +18,9 @@ mod writer;
 pub use loader::{feed, feed_ordinary, finish, fresh, State};
 pub use writer::{estimates, write, MAX_RECORD};
 
-/// Words of a cell and the places of its parts.
-pub const WIDTH: usize = 107;
+pub use crate::header::{CELL_WORDS, RECORD_BYTES};
+
+/// The places of a cell's parts.
 pub const COUNT: usize = 0;
 pub const DATE: usize = 1;
 pub const CLOCK: usize = 2;

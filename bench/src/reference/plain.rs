@@ -1,9 +1,9 @@
 //! Document 01's plain loader, word for word: simple and slow. It shares no code with the fast
 //! loader, not even the calendar.
 
+use crate::header::CELL_WORDS;
 use crate::Entry;
 
-const WIDTH: usize = 107;
 const MAX_TAKEN: usize = 200_000_000;
 
 // ---- The calendar, by counting ----
@@ -175,7 +175,7 @@ impl Registry {
 
     /// The words that its cells take.
     fn words(&self) -> usize {
-        self.meters.len() * 2 * self.days as usize * WIDTH
+        self.meters.len() * 2 * self.days as usize * CELL_WORDS
     }
 }
 
@@ -318,7 +318,7 @@ fn detail_verdict(f: &[&[u8]]) -> u32 {
 
 /// The words of a cell that a record's rows give, all of them right.
 fn read_of(rows: &[Vec<u8>], count: usize) -> Vec<u32> {
-    let mut read = vec![0u32; WIDTH];
+    let mut read = vec![0u32; CELL_WORDS];
     let (date, clock) = time_of(cut(&rows[3])[1]).unwrap();
     read[0] = count as u32;
     read[1] = date;
@@ -438,7 +438,7 @@ impl Plain {
             }
             Some(Unit { first, day, doing: Doing::Waits { meter, cell, read, last }, .. }) => {
                 out.push(Entry { line: first, verdict: 0, at: last, meter, day });
-                let c = &mut self.table[cell * WIDTH..][..WIDTH];
+                let c = &mut self.table[cell * CELL_WORDS..][..CELL_WORDS];
                 if c[0] == 0 || (read[1], read[2]) > (c[1], c[2]) {
                     c.copy_from_slice(&read);
                 }
@@ -553,7 +553,7 @@ fn sound_cell(
         return Err(6);
     }
     let n = (meter * 2 + channel) * days + day;
-    let c = &table[n * WIDTH..][..WIDTH];
+    let c = &table[n * CELL_WORDS..][..CELL_WORDS];
     if c[0] == 0 {
         return Err(7);
     }

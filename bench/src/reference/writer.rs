@@ -5,10 +5,10 @@ use super::registry::Index;
 use super::rows::{all_alnum, CODES};
 use super::*;
 
-/// No record is longer than this; a few bytes behind it are free to be written.
-pub const MAX_RECORD: usize = 2100;
+/// Room for any record; a few bytes behind it are free to be written.
+pub const MAX_RECORD: usize = RECORD_BYTES + 100;
 
-fn sound(cell: &[u32; WIDTH], count: u32) -> bool {
+fn sound(cell: &[u32; CELL_WORDS], count: u32) -> bool {
     let n = count as usize;
     if cell[COUNT] != count || day_number(cell[DATE]).is_none() || !clock_ok(cell[CLOCK]) {
         return false;
@@ -38,11 +38,11 @@ fn cell_at<'t>(
     registry: &[u8],
     table: &'t [u32],
     at: Address,
-) -> Result<(&'t [u32; WIDTH], u32), u32> {
+) -> Result<(&'t [u32; CELL_WORDS], u32), u32> {
     if !index.read(registry) {
         return Err(2);
     }
-    if table.len() < index.cells() * WIDTH {
+    if table.len() < index.cells() * CELL_WORDS {
         return Err(3);
     }
     let days = index.days as usize;
@@ -50,7 +50,7 @@ fn cell_at<'t>(
         return Err(6);
     }
     let n = (at.meter * 2 + at.channel) * days + at.day;
-    let cell: &[u32; WIDTH] = table[n * WIDTH..(n + 1) * WIDTH].try_into().unwrap();
+    let cell: &[u32; CELL_WORDS] = table[n * CELL_WORDS..(n + 1) * CELL_WORDS].try_into().unwrap();
     if cell[COUNT] == 0 {
         return Err(7);
     }
@@ -170,7 +170,7 @@ impl Out<'_> {
         self.text(descriptor);
     }
 
-    fn stamp_and_owner(&mut self, cell: &[u32; WIDTH], owner: &[u8]) {
+    fn stamp_and_owner(&mut self, cell: &[u32; CELL_WORDS], owner: &[u8]) {
         self.text(b"\n00000004,");
         self.number(cell[DATE], 8);
         self.number(cell[CLOCK], 6);
@@ -181,7 +181,7 @@ impl Out<'_> {
         self.text(b",Receiver=183529049,REP=\n");
     }
 
-    fn details(&mut self, cell: &[u32; WIDTH]) {
+    fn details(&mut self, cell: &[u32; CELL_WORDS]) {
         for k in 0..cell[COUNT] as usize / 4 {
             self.text(&CODES[k].to_le_bytes());
             self.text(b",");

@@ -3,7 +3,7 @@
 
 use kilnsorrel_bench::hostile;
 use kilnsorrel_bench::kilnsorrel::{self, State};
-use kilnsorrel_bench::reference::{self, plain, registry::Index, WIDTH};
+use kilnsorrel_bench::reference::{self, plain, registry::Index, CELL_WORDS, RECORD_BYTES};
 use kilnsorrel_bench::rng::Rng;
 use kilnsorrel_bench::sample::World;
 
@@ -23,7 +23,7 @@ fn some_address(rng: &mut Rng, w: &World, table: &[u32]) -> (usize, usize, usize
     let days = w.days as usize;
     if rng.one_in(2) && w.cells() > 0 {
         let from = rng.below(w.cells());
-        let filled = |n: &usize| table[n * WIDTH] != 0;
+        let filled = |n: &usize| table[n * CELL_WORDS] != 0;
         if let Some(n) = (from..w.cells()).chain(0..from).find(filled) {
             return (n / days / 2, n / days % 2, n % days);
         }
@@ -34,7 +34,7 @@ fn some_address(rng: &mut Rng, w: &World, table: &[u32]) -> (usize, usize, usize
 /// A table for Estimates and Write: as loaded, some cells spoiled, now and then too short.
 pub fn spoiled(rng: &mut Rng, w: &World, table: &[u32]) -> Vec<u32> {
     let mut table = table.to_vec();
-    for cell in table.chunks_exact_mut(WIDTH).take(w.cells()) {
+    for cell in table.chunks_exact_mut(CELL_WORDS).take(w.cells()) {
         if cell[0] != 0 && rng.one_in(3) {
             hostile::spoil(rng, cell);
         }
@@ -81,8 +81,8 @@ fn write_call(rng: &mut Rng, p: &Place) -> Result<Vec<u8>, u32> {
     let (m, c, d) = p.at;
     let descriptor = some_descriptor(rng);
     let plainly = |room| plain::write(p.registry, p.table, m, c, d, &descriptor, room);
-    let whole = plainly(2000).map_or(0, |record| record.len());
-    let room = rng.pick(&[whole, whole, whole.saturating_sub(1), whole + 1, 2000, 900, 0]);
+    let whole = plainly(RECORD_BYTES).map_or(0, |record| record.len());
+    let room = rng.pick(&[whole, whole, whole.saturating_sub(1), whole + 1, RECORD_BYTES, 900, 0]);
     let record = plainly(room);
     let expected = match &record {
         Ok(bytes) => (0, bytes.len()),
@@ -127,7 +127,8 @@ pub fn load_back(
     let n = (m * 2 + c) * w.days as usize + d;
     let mut expected = vec![0; w.words()];
     if w.meters[m].flags == 6 {
-        expected[n * WIDTH..][..WIDTH].copy_from_slice(&table[n * WIDTH..][..WIDTH]);
+        expected[n * CELL_WORDS..][..CELL_WORDS]
+            .copy_from_slice(&table[n * CELL_WORDS..][..CELL_WORDS]);
     }
     let mut loaded = vec![0; w.words()];
     let mut state = State::fresh();

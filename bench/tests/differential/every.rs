@@ -1,10 +1,11 @@
 //! Fixed cases, where all of a kind can be gone through: days, values, header fields, line lengths,
 //! registries; and the limits.
 
+use kilnsorrel_bench::header::{CELL_WORDS, RECORD_BYTES, STATE_WORDS};
 use kilnsorrel_bench::hostile;
-use kilnsorrel_bench::kilnsorrel::{self, layout, State, STATE_WORDS};
+use kilnsorrel_bench::kilnsorrel::{self, layout, State};
 use kilnsorrel_bench::reference::calendar::{day_date, DAYS_END};
-use kilnsorrel_bench::reference::{self, plain, MAX_TAKEN, WIDTH};
+use kilnsorrel_bench::reference::{self, plain, COUNT, MARKS, MAX_TAKEN, VALUES};
 use kilnsorrel_bench::rng::Rng;
 use kilnsorrel_bench::sample::{self, padded, Values, World};
 
@@ -28,7 +29,7 @@ fn every_day() {
         }
         l.call(None, 2);
         let table = l.table.run();
-        let mut out = vec![0; 2000];
+        let mut out = vec![0; RECORD_BYTES];
         for d in 0..w.days as usize {
             let (number, n) = kilnsorrel::write(&w.registry, table, 0, 0, d, b"X", &mut out);
             assert_eq!(number, 0, "day {d} from {}", w.first);
@@ -212,11 +213,10 @@ fn large_file() {
     }
 }
 
-/// A state is 397 words: another length is refused, before anything else, and nothing changes.
+/// Of another length a state is refused, before anything else, and nothing changes.
 #[test]
 fn state_lengths() {
-    assert_eq!(STATE_WORDS, layout::ESI + 64 + 13 + WIDTH);
-    for n in [0, 1, 201, 396, 398, 1000] {
+    for n in [0, 1, layout::HELD, STATE_WORDS - 1, STATE_WORDS + 1, 1000] {
         let mut state = Guarded::new(&vec![7; n], GUARD);
         let mut table = vec![7; 10];
         let mut report = vec![7; 10];
@@ -225,6 +225,12 @@ fn state_lengths() {
         assert_eq!(answer, (1, 0));
         let answer = kilnsorrel::finish_words(state.run(), b"", &mut table, &mut report);
         assert_eq!(answer, (1, 0));
+        let mut entries = [FILLER; 2];
+        let answer = kilnsorrel::feed_entries(state.run(), b"\n", b"", &mut table, &mut entries);
+        assert_eq!(answer, (1, 0));
+        let answer = kilnsorrel::finish_entries(state.run(), b"", &mut table, &mut entries);
+        assert_eq!(answer, (1, 0));
+        assert_eq!(entries, [FILLER; 2]);
         assert!(state.run().iter().chain(&table).chain(&report).all(|w| *w == 7));
     }
 }
@@ -236,13 +242,14 @@ fn longest_record() {
     w.add_owner(b"1234567890123");
     w.add_meter(vec![b'A'; 64], b"1234567890123".to_vec(), 6);
     let mut table = vec![0; w.words()];
-    table[..3].copy_from_slice(&[100, 20991231, 235959]);
-    table[3..7].copy_from_slice(&[u32::MAX, u32::MAX, u32::MAX, 15]);
-    table[7..WIDTH].fill(999_999_999);
-    let mut out = vec![0; 2000];
+    table[COUNT..MARKS].copy_from_slice(&[100, 20991231, 235959]);
+    table[MARKS..VALUES].copy_from_slice(&[u32::MAX, u32::MAX, u32::MAX, 15]);
+    table[VALUES..CELL_WORDS].fill(999_999_999);
+    let mut out = vec![0; RECORD_BYTES];
     let answer = kilnsorrel::write(&w.registry, &table, 0, 0, 0, &[b'z'; 80], &mut out);
-    assert_eq!(answer, (0, 2000));
-    assert_eq!(plain::write(&w.registry, &table, 0, 0, 0, &[b'z'; 80], 2000).as_ref(), Ok(&out));
+    assert_eq!(answer, (0, RECORD_BYTES));
+    let due = plain::write(&w.registry, &table, 0, 0, 0, &[b'z'; 80], RECORD_BYTES);
+    assert_eq!(due.as_ref(), Ok(&out));
     assert_eq!(kilnsorrel::estimates(&w.registry, &table, 0, 0, 0), (0, 100));
     load_back(&mut Rng::new(4), &w, &table, (0, 0, 0), &out);
 }

@@ -1,8 +1,9 @@
 //! The library, the two fast loaders and the plain one, which get the same calls and must give the
 //! same answers.
 
+use kilnsorrel_bench::header::ENTRY_WORDS;
 use kilnsorrel_bench::hostile;
-use kilnsorrel_bench::kilnsorrel::{self, layout, State, ENTRY_WORDS};
+use kilnsorrel_bench::kilnsorrel::{self, layout, State};
 use kilnsorrel_bench::reference::plain::{self, Plain};
 use kilnsorrel_bench::reference::{self, MAX_TAKEN};
 use kilnsorrel_bench::rng::Rng;
@@ -61,11 +62,19 @@ struct Fast {
     table: Vec<u32>,
 }
 
-/// All loaders, which get the same calls.
+/// The library by the calls that take a report of entries.
+struct ByEntries {
+    state: State,
+    table: Guarded<u32>,
+}
+
+/// All loaders, which get the same calls. `state` and `table` are the library's by the calls that
+/// take a report of words.
 pub struct Loaders {
     registry: Vec<u8>,
     state: State,
     pub table: Guarded<u32>,
+    by_entries: ByEntries,
     fast: [Fast; 2],
     plain: Plain,
 }
@@ -77,6 +86,7 @@ impl Loaders {
             registry: registry.to_vec(),
             state: State::fresh(),
             table: Guarded::new(table, GUARD),
+            by_entries: ByEntries { state: State::fresh(), table: Guarded::new(table, GUARD) },
             fast: [fast(reference::feed), fast(reference::feed_ordinary)],
             plain: Plain::new(registry, table),
         }
@@ -87,6 +97,7 @@ impl Loaders {
         let mut words = *self.state.words();
         words[layout::TAKEN] = taken as u32;
         self.state = State::from_words(words);
+        self.by_entries.state = self.state.clone();
         self.plain.taken = taken;
         for fast in &mut self.fast {
             fast.state.taken = taken;
@@ -104,6 +115,7 @@ impl Loaders {
         report.resize(room, FILLER);
         assert!(report.starts_with(&entries), "more entries than there is room");
         self.call_library(piece, (number, entries.len()), &report);
+        self.call_by_entries(piece, (number, entries.len()), &report);
         for fast in &mut self.fast {
             let mut r = vec![FILLER; room];
             let answer = match piece {
@@ -135,6 +147,21 @@ impl Loaders {
         }
     }
 
+    /// The same by the calls that take a report of entries: the state must be the same, word by
+    /// word.
+    fn call_by_entries(&mut self, piece: Option<&[u8]>, answer: (u32, usize), report: &[Entry]) {
+        let ByEntries { state, table } = &mut self.by_entries;
+        let mut r = Guarded::new(&vec![FILLER; report.len()], FILLER);
+        let given = match piece {
+            Some(p) => state.feed_entries(p, &self.registry, table.run(), r.run()),
+            None => state.finish_entries(&self.registry, table.run(), r.run()),
+        };
+        assert_eq!(given, answer, "the library's answer, by entries");
+        assert_eq!(r.run(), report, "the library's report of entries");
+        assert!(table.run() == self.plain.table(), "the library's table, by entries");
+        assert!(*state == self.state, "the library's state, by entries");
+    }
+
     /// A call that must be refused, with another registry, part of the table or a report of so many
     /// words: its number. Nothing may change. None: it would not be refused, and is not made.
     fn refused(
@@ -160,6 +187,16 @@ impl Loaders {
         assert!(state.run() == self.state.words(), "a refusal changed the state");
         assert!(self.table.run() == self.plain.table(), "a refusal changed the table");
         assert!(r.run().iter().all(|w| *w == GUARD - 1), "a refusal changed the report");
+        let mut r = Guarded::new(&vec![FILLER; room], FILLER);
+        let table = &mut self.by_entries.table.run()[..words];
+        let answer = match piece {
+            Some(p) => kilnsorrel::feed_entries(state.run(), p, registry, table, r.run()),
+            None => kilnsorrel::finish_entries(state.run(), registry, table, r.run()),
+        };
+        assert_eq!(answer, (number, 0), "the library's refusal, by entries");
+        assert!(state.run() == self.state.words(), "a refusal changed the state");
+        assert!(self.by_entries.table.run() == self.plain.table(), "a refusal changed the table");
+        assert!(r.run().iter().all(|e| *e == FILLER), "a refusal changed the report of entries");
         let fast = &mut self.fast[0];
         let (mut state, mut r) = (fast.state.clone(), vec![FILLER; room]);
         let answer = match piece {

@@ -1,24 +1,53 @@
 //! States that come from no calls: the library reads them freely, but returns, and writes nowhere
 //! else.
 
+use kilnsorrel_bench::header::{ENTRY_WORDS, STATE_WORDS};
 use kilnsorrel_bench::hostile;
-use kilnsorrel_bench::kilnsorrel::{self, layout, State, ENTRY_WORDS, STATE_WORDS};
+use kilnsorrel_bench::kilnsorrel::{self, layout, State};
 use kilnsorrel_bench::reference::{plain, MAX_TAKEN};
 use kilnsorrel_bench::rng::Rng;
 use kilnsorrel_bench::sample::World;
+use kilnsorrel_bench::Entry;
 
 use crate::loaders::{Guarded, GUARD};
 use crate::Seen;
+
+/// A word of a report before a call.
+const FILL: u32 = GUARD - 1;
 
 /// Refusal 1, by a state's words.
 fn overfull(s: &[u32; STATE_WORDS]) -> bool {
     let wide = |i: usize| s[i] as u64 + ((s[i + 1] as u64) << 32);
     let takes_rows = s[layout::UNIT] == 1;
     let details = s[layout::UNIT + 2].saturating_sub(4);
-    wide(layout::HELD) > 201
+    wide(layout::HELD) > layout::LINE_BYTES as u64
         || wide(layout::TAKEN) > MAX_TAKEN as u64
         || takes_rows && details > 25
         || s[layout::LINES] as u64 > wide(layout::TAKEN)
+}
+
+/// The same call with a report of entries: it answers and leaves what the one with words did.
+fn by_entries(
+    w: &World,
+    mut state: [u32; STATE_WORDS],
+    piece: Option<&[u8]>,
+    answer: (u32, usize),
+    start: &[u32],
+    [state_after, table_after, report_after]: [&mut Guarded<u32>; 3],
+) {
+    let room = report_after.run().len() / ENTRY_WORDS;
+    let filler = Entry { line: FILL, verdict: FILL, at: FILL, meter: FILL, day: FILL };
+    let mut table = Guarded::new(start, GUARD);
+    let mut report = Guarded::new(&vec![filler; room], filler);
+    let given = match piece {
+        Some(p) => kilnsorrel::feed_entries(&mut state, p, &w.registry, table.run(), report.run()),
+        None => kilnsorrel::finish_entries(&mut state, &w.registry, table.run(), report.run()),
+    };
+    assert_eq!(given, answer, "the answer by entries");
+    assert!(state_after.run() == state, "the state by entries");
+    assert!(table_after.run() == table.run(), "the table by entries");
+    let words = kilnsorrel::words_of(report.run());
+    assert!(report_after.run().starts_with(words), "the report of entries");
 }
 
 /// A call with a forged state: it returns, by number 1 just where it must, and writes nowhere but
@@ -29,11 +58,12 @@ fn forged_call(rng: &mut Rng, w: &World, state: &mut Guarded<u32>, piece: Option
     let start = hostile::table(rng, w);
     let mut table = Guarded::new(&start, GUARD);
     let words = room * ENTRY_WORDS + rng.below(ENTRY_WORDS);
-    let mut report = Guarded::new(&vec![GUARD - 1; words], GUARD);
+    let mut report = Guarded::new(&vec![FILL; words], GUARD);
     let (number, count) = match piece {
         Some(p) => kilnsorrel::feed_words(state.run(), p, &w.registry, table.run(), report.run()),
         None => kilnsorrel::finish_words(state.run(), &w.registry, table.run(), report.run()),
     };
+    by_entries(w, before, piece, (number, count), &start, [state, &mut table, &mut report]);
     let taken = before[layout::TAKEN] as usize;
     let due = match overfull(&before) {
         true => 1,
@@ -42,7 +72,7 @@ fn forged_call(rng: &mut Rng, w: &World, state: &mut Guarded<u32>, piece: Option
     assert_eq!(number, due, "of the state {before:?}");
     assert!(count <= room, "more entries than there is room");
     let behind = &report.run()[count * ENTRY_WORDS..];
-    assert!(behind.iter().all(|w| *w == GUARD - 1), "a write behind the entries");
+    assert!(behind.iter().all(|w| *w == FILL), "a write behind the entries");
     assert!(table.run()[w.words()..] == start[w.words()..], "a write past the last cell");
     let after: [u32; STATE_WORDS] = state.run().try_into().expect("a state");
     if number != 0 {

@@ -115,3 +115,7 @@ mark_statuses w i h l = rw (mark_set w i) (marked_status mark_bits w i h (le_ref
 pub tested : (w : Words) (i : ℕ) → eqb (bit_and (get_or w (mark_word i) 0 / 2 ^ (i % word_bits)) 1) 1 ≡ is_estimated w i
 unfolding is_estimated bit
 tested w i = ap (λ (x : ℕ). eqb x 1) (and_mask (get_or w (mark_word i) 0 / 2 ^ (i % word_bits)) 1)
+
+pub tested_status : (w : Words) (i : ℕ) → i < mark_bits
+    → eqb (bit_and (get_or w (mark_word i) 0 / 2 ^ (i % word_bits)) 1) 1 ≡ get_or (statuses mark_bits w) i false
+tested_status w i h = tested w i ∙ sym (statuses-at mark_bits w i h)

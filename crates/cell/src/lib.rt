@@ -58,22 +58,14 @@ impl Cell {
         }
     }
 
-    // A read of so many intervals, none given yet, and no stamp.
+    // A read of so many intervals, none given yet, and no stamp. Row one begins a record's read so.
     pub fn begun(count: u32) -> Cell
         ensures { result.words ≡ begun count }
     {
         let mut cell = Cell::cleared();
-        begin(&mut cell.words, count);
+        cell.words[Cell::COUNT] = count;
         cell
     }
-}
-
-// Begins a read of so many intervals, in words that another read may have used.
-pub fn begin(words: &mut Words, count: u32)
-    ensures { words.new ≡ begun count }
-{
-    *words = [0; Cell::WIDTH];
-    words[Cell::COUNT] = count;
 }
 
 pub fn put_stamp(words: &mut Words, stamp: Stamp)

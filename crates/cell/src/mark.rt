@@ -1,5 +1,5 @@
 // Estimate marks: a bit for each interval. They need no more words than those before the values.
-ghost use Rattle.std.specs.Prelude.{◌≡◌, true, ◌<◌, ◌≤◌, length, set};
+ghost use Rattle.std.specs.Prelude.{◌≡◌, true, false, ◌<◌, ◌≤◌, length, get_or, set};
 ghost use Rattle.cell.specs.Layout.{values_at, mark_bits};
 ghost use Rattle.cell.specs.Marks.{is_estimated, statuses, with_mark};
 
@@ -20,7 +20,8 @@ pub fn set_mark(words: &mut [u32], i: usize)
 // Whether interval i is estimated.
 pub fn is_marked(words: &[u32], i: usize) -> bool
     requires { (i < mark_bits) × (values_at ≤ length words.now) }
-    ensures { result ≡ is_estimated words.now i }
+    ensures bit { result ≡ is_estimated words.now i }
+    ensures statuses { result ≡ get_or (statuses mark_bits words.now) i false }
 {
     let at = Cell::MARKS + i / WORD_BITS;
     (words[at] >> (i % WORD_BITS)) & 1 == 1

@@ -1,2 +1,3 @@
--- Laws of the definitions, by subject; each function's proof cites them.
+-- Laws of the definitions, by subject; each function's proof cites them. That the call asks nothing.
 pub mod Counting
+pub mod Asks

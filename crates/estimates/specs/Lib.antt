@@ -1,2 +1,3 @@
 -- The call Estimates.
 pub mod Estimates
+pub mod Contract

@@ -1,7 +1,7 @@
 // What the programs read, from files and from standard input.
 #![tactic(auto)]
 
-ghost use Rattle.std.specs.Prelude.{◌<◌, length, take, IfOk};
+ghost use Rattle.std.specs.Prelude.{◌≡◌, ◌<◌, length, take, IfOk, Ok};
 ghost use Rattle.std.specs.Io.{ReadsAtMost};
 ghost use Rattle.std.specs.Io.KnownBytes.{Consumes, IsAtEnd};
 
@@ -26,12 +26,23 @@ pub fn read_full<R: Read>(reader: &mut R, buffer: &mut [u8]) -> io::Result<usize
     Ok(done)
 }
 
-// The bytes of a file, as far as there is room; how many were put at the buffer's start. A file that can't be opened has none.
+// The bytes of a file, as far as there is room; how many were put at the buffer's start. A file that is missing has none.
 pub fn read_file(rt: &impl Files, name: &str, buffer: &mut [u8]) -> io::Result<usize>
     ensures { ReadsAtMost result buffer.new }
 {
-    let Ok(mut file) = fs::open(rt, name) else {
-        return Ok(0);
-    };
-    read_full(&mut file, buffer)
+    match fs::open(rt, name) {
+        Ok(mut file) => read_full(&mut file, buffer),
+        Err(error) if error.kind() == io::ErrorKind::NotFound => Ok(0),
+        Err(error) => Err(error),
+    }
+}
+
+// What a read gave; where it failed, after a line on standard error that names what was read.
+pub fn named(rt: &impl Eprint, name: &str, read: io::Result<usize>) -> io::Result<usize>
+    ensures { IfOk result (λ n. read ≡ Ok n) }
+{
+    if read.is_err() {
+        eprintln!(rt; "{name} could not be read")?;
+    }
+    read
 }

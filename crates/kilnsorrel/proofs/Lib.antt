@@ -1,3 +1,2 @@
--- Laws of the definitions, by subject; each function's proof cites them.
-pub mod Small
-pub mod Crossing
+-- Everything that is claimed holds of the exported calls.
+pub mod Exports

@@ -1,3 +1,2 @@
--- The calls at the border to C and Rust.
-pub mod Border
-pub mod Private
+-- The calls under their names for C.
+pub mod Exports

@@ -1,4 +1,4 @@
-// The calls for programs in C or Rust, as a static library: numbers and slices only. include/kilnsorrel.h declares them, bench/ has a safe wrapper.
+// The calls for programs in C or Rust, as a static library. include/kilnsorrel.h declares them, bench/ has a safe wrapper.
 //
 //     uint32_t state[KILNSORREL_STATE_WORDS];
 //     kilnsorrel_fresh(state, KILNSORREL_STATE_WORDS);
@@ -6,84 +6,25 @@
 //     uint32_t number = answer >> 32;              // 0 done, else document 01's refusal
 //     uint32_t entries = (uint32_t)answer;         // five words of the report for each
 //
-// For whoever changes it: a state crosses the border as words, by statewords/specs/Layout.antt; whatever they hold, they are some state. A run of another
-// length is refused 1. What the calls do is loader's, estimates' and writer's; here is only how it is asked and answered.
+// A report is a run of words, or in kilnsorrel_feed_entries and kilnsorrel_finish_entries one of entries.
+//
+// For whoever changes it: each call is that of crate border, under a name for C; proofs/Exports.antt says that its contract is the very one.
 #![tactic(auto)]
 
-ghost use Rattle.std.specs.Prelude.{◌≡◌, ◌^◌, ◌<◌, ℕ, IfOk};
-ghost use Rattle.report.specs.Outcome.{answers};
-ghost use Rattle.cell.specs.Layout.{word_bits};
+ghost use Rattle.std.specs.Prelude.{◌≡◌};
 ghost use Rattle.estimates.specs.Estimates.{estimates_of};
-ghost use Rattle.writer.specs.Write.{writes, length_of, output_with};
+ghost use Rattle.writer.specs.Write.{Fits, writes, length_of, output_with};
 ghost use Rattle.plain.specs.Call.{feed as asks_feed, finish as asks_finish};
-ghost use Rattle.loader.specs.Keeps.{Keeps};
-ghost use Rattle.loader.specs.Report.{report_in, words_left};
-ghost use Rattle.kilnsorrel.specs.Border.{Packs, Freshens, Call};
-ghost use Rattle.kilnsorrel.specs.Private.{asked_of};
+ghost use Rattle.loader.specs.Report.{itself, left, report_in, words_left};
+ghost use Rattle.border.specs.Border.{Packs, Freshens, Call};
 
-use cells::Address;
-use estimates::estimates;
-use loader::{feed, finish};
-use report::refusal::Refusal;
-use state::{State, fresh};
-use statewords::{SPAN, put_state, state_in};
-use writer::write;
-
-// The refusal's number in the high half, or the count or length in the low one.
-fn packed(answer: Result<usize, Refusal>) -> u64
-    requires { IfOk answer (λ n. n < 2 ^ word_bits) }
-    ensures { Packs (answers answer) result }
-{
-    match answer {
-        Ok(n) => n as u64,
-        Err(refusal) => u64::from(u32::from(refusal)) * SPAN as u64,
-    }
-}
+use report::Entry;
 
 #[unsafe(no_mangle)]
 pub extern "C" fn kilnsorrel_fresh(state: &mut [u32]) -> u64
     ensures { Freshens state.old state.new result }
 {
-    let Some(state) = state.as_mut_array() else {
-        return packed(Err(Refusal::BadState));
-    };
-    put_state(state, &fresh());
-    packed(Ok(0))
-}
-
-// A feed of a piece, or a finish. An Option tells which, and no closure does: a closure's contract would say `Keeps` of both.
-fn answer(
-    state: &mut State,
-    piece: Option<&[u8]>,
-    registry: &[u8],
-    table: &mut [u32],
-    report: &mut [u32],
-) -> Result<usize, Refusal>
-    ensures { Keeps report_in words_left registry.now state.old table.old (asked_of piece.entry) report.old result state.new table.new report.new }
-{
-    match piece {
-        Some(piece) => feed(state, piece, registry, table, report),
-        None => finish(state, registry, table, report),
-    }
-}
-
-// The same on the words of a state. A refusal leaves the very words.
-fn called(
-    state: &mut [u32],
-    piece: Option<&[u8]>,
-    registry: &[u8],
-    table: &mut [u32],
-    report: &mut [u32],
-) -> Result<usize, Refusal>
-    ensures few { IfOk result (λ n. n < 2 ^ word_bits) }
-    ensures call { (r : ℕ) → Packs (answers result) r
-        → Call registry.now (asked_of piece.entry) state.old state.new table.old table.new report.old report.new r }
-{
-    let words = state.as_mut_array().ok_or(Refusal::BadState)?;
-    let mut given = state_in(words);
-    let count = answer(&mut given, piece, registry, table, report)?;
-    put_state(words, &given);
-    Ok(count)
+    border::fresh(state)
 }
 
 #[unsafe(no_mangle)]
@@ -94,9 +35,22 @@ pub extern "C" fn kilnsorrel_feed(
     table: &mut [u32],
     report: &mut [u32],
 ) -> u64
-    ensures { Call registry.now (asks_feed piece.now) state.old state.new table.old table.new report.old report.new result }
+    ensures { Call report_in words_left registry.now (asks_feed piece.now) state.old state.new table.old table.new report.old report.new result }
 {
-    packed(called(state, Some(piece), registry, table, report))
+    border::feed(state, piece, registry, table, report)
+}
+
+#[unsafe(no_mangle)]
+pub extern "C" fn kilnsorrel_feed_entries(
+    state: &mut [u32],
+    piece: &[u8],
+    registry: &[u8],
+    table: &mut [u32],
+    report: &mut [Entry],
+) -> u64
+    ensures { Call itself left registry.now (asks_feed piece.now) state.old state.new table.old table.new report.old report.new result }
+{
+    border::feed_entries(state, piece, registry, table, report)
 }
 
 #[unsafe(no_mangle)]
@@ -106,12 +60,23 @@ pub extern "C" fn kilnsorrel_finish(
     table: &mut [u32],
     report: &mut [u32],
 ) -> u64
-    ensures { Call registry.now asks_finish state.old state.new table.old table.new report.old report.new result }
+    ensures { Call report_in words_left registry.now asks_finish state.old state.new table.old table.new report.old report.new result }
 {
-    packed(called(state, None, registry, table, report))
+    border::finish(state, registry, table, report)
 }
 
-// How many intervals of a cell are estimated. Meter, channel and window day are from 0.
+#[unsafe(no_mangle)]
+pub extern "C" fn kilnsorrel_finish_entries(
+    state: &mut [u32],
+    registry: &[u8],
+    table: &mut [u32],
+    report: &mut [Entry],
+) -> u64
+    ensures { Call itself left registry.now asks_finish state.old state.new table.old table.new report.old report.new result }
+{
+    border::finish_entries(state, registry, table, report)
+}
+
 #[unsafe(no_mangle)]
 pub extern "C" fn kilnsorrel_estimates(
     registry: &[u8],
@@ -122,15 +87,9 @@ pub extern "C" fn kilnsorrel_estimates(
 ) -> u64
     ensures { Packs (estimates_of registry.now table.now meter channel day) result }
 {
-    let at = Address {
-        meter,
-        channel,
-        day,
-    };
-    packed(estimates(registry, table, at).map(|n| n as usize))
+    border::estimates(registry, table, meter, channel, day)
 }
 
-// A sound cell as a record, from place 0 of the output on.
 #[unsafe(no_mangle)]
 pub extern "C" fn kilnsorrel_write(
     registry: &[u8],
@@ -143,11 +102,7 @@ pub extern "C" fn kilnsorrel_write(
 ) -> u64
     ensures answer { Packs (length_of (writes registry.now table.now meter channel day descriptor.now output.old)) result }
     ensures bytes { output.new ≡ output_with output.old (writes registry.now table.now meter channel day descriptor.now output.old) }
+    ensures words { Fits table.now }
 {
-    let at = Address {
-        meter,
-        channel,
-        day,
-    };
-    packed(write(registry, table, at, descriptor, output))
+    border::write(registry, table, meter, channel, day, descriptor, output)
 }

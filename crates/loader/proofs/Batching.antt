@@ -26,18 +26,20 @@ use Rattle.report.specs.declared.refusal.Refusal.TheVariants.{BadState, BadRegis
 use Rattle.plain.specs.Rows.{rules_of}
 use Rattle.plain.specs.Table.{load_all}
 use Rattle.plain.specs.Loader.{Scan, scan_to, scan_events, end_events, entries_of, loads_of}
-use Rattle.plain.specs.Call.{room_for, fresh, Asked, feed, finish, Call, piece_of, done_call}
+use Rattle.plain.specs.Call.{room_for, Asked, feed, finish, Call, piece_of, done_call}
 use Rattle.plain.specs.Promise.{cut_scan, cut_to, view_from, code_number, code_call}
 use Rattle.plain.proofs.Room.{feed-room, finish-room}
 use Rattle.units.specs.Answer.{HasRoom}
 use Rattle.pieces.specs.Ran.{scan_of, Ran, Holds, Runs}
 use Rattle.pieces.proofs.Running.{ran-both, ran-none}
 use Rattle.state.specs.declared.State.{State}
+use Rattle.state.specs.Fresh.{fresh_state}
 use Rattle.state.specs.View.{view_of}
 use Rattle.state.specs.Refused.{number_for}
+use Rattle.state.proofs.FreshView.{fresh-view}
 use Rattle.state.proofs.Refusals.{Fits, fits-state, is-allowed, few_bytes, room_enough}
 use Rattle.batches.specs.Batch.{Last}
-use Rattle.loader.specs.Keeps.{Keeps}
+use Rattle.loader.specs.Keeps.{Leaves, Keeps}
 use Rattle.loader.specs.Report.{pasted}
 use Rattle.loader.proofs.Reports.{paste-behind, paste-front}
 
@@ -45,7 +47,7 @@ between-whole : (bs : Bytes) (n : ℕ) → n ≡ length bs → between 0 n bs �
 between-whole bs n e = take_all (n - 0) (drop 0 bs) (omega arith)
 
 -- no refusal is the number of a call that is done
-some-number : (r : Refusal) → ¬ (refusal_number r ≡ done)
+pub some-number : (r : Refusal) → ¬ (refusal_number r ≡ done)
 some-number BadState e = omega (arith, e)
 some-number BadRegistry e = omega (arith, e)
 some-number ShortTable e = omega (arith, e)
@@ -96,6 +98,7 @@ module _ {A : Type 0} (entries : List A → List Entry) (behind : ℕ → List A
           table = sym (ap (λ c. load_all (rules_of reg) t (loads_of c.events)) q);
           written = sym (ap (λ c. entries_of c.events ++ entries report) q);
         };
+        fresh = tt;
         same = refl;
         long = refl;
         left = refl;
@@ -109,10 +112,10 @@ module _ {A : Type 0} (entries : List A → List Entry) (behind : ℕ → List A
       → count ≡ length (done_call (rules_of reg) (view_of s).plain a).events
       → view_of after ≡ view_from (done_call (rules_of reg) (view_of s).plain a).next
       → entries written ≡ entries_of (done_call (rules_of reg) (view_of s).plain a).events ++ drop count (entries report)
-      → length written ≡ length report → behind count written ≡ behind count report
+      → length written ≡ length report → behind count written ≡ behind count report → Leaves a after
       → Keeps entries behind reg s t a report (Ok count) after table written
   unfolding code_number
-  done-keeps reg s t a report count after table written e number loads counted view w long left =
+  done-keeps reg s t a report count after table written e number loads counted view w long left new =
       let q : code_call (rules_of reg) (length t) (view_of s) (call reg s (length t) (length (entries report)) a) ≡ code_number (rules_of reg) done (view_of s) a
       = coded-done reg s (length t) (length (entries report)) a e in
       record {
@@ -123,6 +126,7 @@ module _ {A : Type 0} (entries : List A → List Entry) (behind : ℕ → List A
           table = loads ∙ sym (ap (λ c. load_all (rules_of reg) t (loads_of c.events)) q);
           written = w ∙ sym (ap (λ c. entries_of c.events ++ drop count (entries report)) q);
         };
+        fresh = new;
         same = tt;
         long = long;
         left = left;
@@ -243,7 +247,7 @@ module _ {A : Type 0} (entries : List A → List Entry) (behind : ℕ → List A
           let held : s.scan.held ≡ length (take kept_limit u.kept) = held-long s u c.holds.whole ran.reaches in
           done-keeps reg s₀ t₀ (feed bs) r₀ count s t r c.goes refl ran.tells.loads n
           (λ i. record { plain = record { scanned = ran.reaches i; taken = c.taken i }; held = held i })
-          (c.report ∙ ap (λ es. es ++ drop count (entries r₀)) ran.tells.entered) long (c.left count (omega arith))
+          (c.report ∙ ap (λ es. es ++ drop count (entries r₀)) ran.tells.entered) long (c.left count (omega arith)) tt
 
   -- ---- FINISH
 
@@ -272,10 +276,10 @@ module _ {A : Type 0} (entries : List A → List Entry) (behind : ℕ → List A
           )
 
       pub ends : (r : List A) (s : State) → entries r ≡ pasted (entries r₀) 0 batch
-          → ((n : ℕ) → 0 + length batch ≤ n → behind n r ≡ behind n r₀) → view_of s ≡ view_from fresh → length r ≡ length r₀
+          → ((n : ℕ) → 0 + length batch ≤ n → behind n r ≡ behind n r₀) → s ≡ fresh_state → length r ≡ length r₀
           → Keeps entries behind reg s₀ t₀ finish r₀ (Ok (length batch)) s t r
       unfolding done_call view_of entries_of
       ends r s e left new long =
           let w : entries r ≡ batch ++ drop (length batch) (entries r₀) = e ∙ paste-front batch (entries r₀) in
-          done-keeps reg s₀ t₀ finish r₀ (length batch) s t r goes refl x.loads end-count new
-          (w ∙ ap (λ es. es ++ drop (length batch) (entries r₀)) x.entered) long (left (length batch) (omega arith))
+          done-keeps reg s₀ t₀ finish r₀ (length batch) s t r goes refl x.loads end-count (ap view_of new ∙ fresh-view)
+          (w ∙ ap (λ es. es ++ drop (length batch) (entries r₀)) x.entered) long (left (length batch) (omega arith)) new

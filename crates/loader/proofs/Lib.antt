@@ -3,5 +3,5 @@
 pub mod Reports
 -- The batches of a feed, and the last one.
 pub mod Batching
--- Demand 3 over the calls.
-pub mod Demand3
+-- The calls ask nothing.
+pub mod Asks

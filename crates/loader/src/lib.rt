@@ -5,14 +5,13 @@
 //     let count = finish(&mut state, registry, &mut table, &mut report)?;
 //
 // A call tells how many entries it wrote into the report, from place 0 on, or why it was refused; a refusal writes nothing and changes nothing. A report
-// is a run of entries, or of words, five an entry (`slot`). What a list of calls does is proofs/Demand3.antt; the claim is plain/specs/Claim.antt.
+// is a run of entries, or of words, five an entry (`slot`). What a list of calls does is claims/specs/Claims.antt.
 //
 // For whoever changes it: `feed` counts bytes and entries, and passes all else on. What is refused is state's `admit`, the work is in pieces' `read_lines` and
 // batches' `end_file`, over words and not over entries; `Slot::put` puts a batch into the report. The laws that their proofs cite are proofs/Batching.antt's.
 // State, registry, table and report are C's parameters, in its order.
 #![tactic(auto)]
 
-ghost use Rattle.std.specs.Prelude.{◌≡◌};
 ghost use Rattle.plain.specs.Call.{feed as asks_feed, finish as asks_finish};
 ghost use Rattle.loader.specs.Keeps.{Keeps};
 

@@ -4,11 +4,11 @@
 //
 // It prints a header, then each entry's five numbers: first line, verdict, deciding line, meter, day. A call that is refused prints `refused` and
 // its number, and ends it. A missing registry.dat counts as empty; one that is longer than the program has room for is said so on standard
-// error, and nothing is loaded. The table has 64 cells, cleared.
+// error, and nothing is loaded. So is a read or a write that fails: it ends the load there, without a finish. The table has 64 cells, cleared.
 #![tactic(auto)]
 
 use cell::Cell;
-use input::{read_file, read_full};
+use input::{named, read_file, read_full};
 use loader::{feed, finish};
 use print::{Stop, columns, ended, entries};
 use report::words::PER_ENTRY;
@@ -28,22 +28,24 @@ const REPORT_WORDS: usize = PER_ENTRY * (2 + PIECE_SIZE / 2);
 // No more pieces than this are taken before a call is refused, since there are too many bytes.
 const MOST_PIECES: usize = 1 + BYTE_LIMIT / PIECE_SIZE;
 
+const REGISTRY: &str = "registry.dat";
+
 const REGISTRY_SIZE: usize = 262_144;
 
-// Feeds standard input piece by piece, and finishes, as vectors does with its cases.
-fn load(rt: &(impl Input + Print), registry: &[u8]) -> Result<(), Stop> {
+// Feeds standard input piece by piece, and finishes, as vectors does with its cases. The piece that is not full is the last, and may be empty.
+fn load(rt: &(impl Input + Print + Eprint), registry: &[u8]) -> Result<(), Stop> {
     let mut reader = rt.reader();
     let mut table = [0; TABLE_WORDS];
     let mut report = [0; REPORT_WORDS];
     let mut piece = [0; PIECE_SIZE];
     let mut state = fresh();
     for _ in 0..=MOST_PIECES {
-        let n = read_full(&mut reader, &mut piece)?;
-        if n == 0 {
-            break;
-        }
+        let n = named(rt, "standard input", read_full(&mut reader, &mut piece))?;
         let count = feed(&mut state, &piece[..n], registry, &mut table, &mut report)?;
         entries(rt, &report, count)?;
+        if n < PIECE_SIZE {
+            break;
+        }
     }
     let count = finish(&mut state, registry, &mut table, &mut report)?;
     entries(rt, &report, count)?;
@@ -53,9 +55,10 @@ fn load(rt: &(impl Input + Print), registry: &[u8]) -> Result<(), Stop> {
 fn main(rt: HostRuntime) -> io::Result<()> {
     columns(&rt)?;
     let mut registry = [0; REGISTRY_SIZE + 1];
-    let n = read_file(&rt, "registry.dat", &mut registry)?;
+    let n = named(&rt, REGISTRY, read_file(&rt, REGISTRY, &mut registry))?;
     if REGISTRY_SIZE < n {
-        return eprintln!(rt; "lseload: registry.dat is longer than {REGISTRY_SIZE} bytes");
+        eprintln!(rt; "{REGISTRY} is longer than {REGISTRY_SIZE} bytes")?;
+        return Err(io::Error::from(io::ErrorKind::FileTooLarge));
     }
     ended(&rt, load(&rt, &registry[..n]))
 }

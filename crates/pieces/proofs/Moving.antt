@@ -25,7 +25,7 @@ use Rattle.units.specs.declared.Stepped.{Stepped}
 use Rattle.units.specs.Answer.{unit_of, told, judged_if, Reads}
 use Rattle.units.specs.declared.Unit.{Unit as KeptUnit}
 use Rattle.runs.specs.declared.Passed.{Passed}
-use Rattle.runs.specs.Run.{Asks, Passes}
+use Rattle.runs.specs.Run.{Passes}
 use Rattle.pieces.specs.declared.Scan.{Scan as KeptScan}
 use Rattle.pieces.specs.declared.line.Moved.{Moved}
 use Rattle.pieces.specs.Ran.{scan_of, Ran, Holds, told_in, Moves, batch_size, most_said, Runs}

@@ -142,7 +142,7 @@ module _ (R : Rules) where
 
   -- with nothing between them
   pub joined_files : (a b : Bytes) → Seams R a [] b → file_events R (a ++ b) ≡ file_events R a ++ raise_events (line_count a) (file_events R b)
-  unfolding line_count lines_from na nx x_events wx scan_to scan_events
+  unfolding lines_from na nx x_events wx scan_to scan_events
   joined_files a b h =
       three a [] b h ∙ ap (λ e. file_events R a ++ (e ++ raise_events (line_count a + 0) (file_events R b))) (nothing a b h)
       ∙ ap (λ n. file_events R a ++ raise_events n (file_events R b)) (add-zero (line_count a))

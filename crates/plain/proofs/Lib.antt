@@ -19,7 +19,8 @@ pub mod Loads
 pub mod Latest
 pub mod Good
 pub mod Few
--- Calls: 201 bytes are enough, so is the room; a chain of calls, and one that takes a file.
+-- Calls: one that is refused; 201 bytes are enough, so is the room; a chain of calls, and one that takes a file.
+pub mod Refused
 pub mod Kept
 pub mod Room
 pub mod Calls

@@ -71,15 +71,15 @@ module _ (a x : ℕ) where
       go true h = ap (λ r. v ∷ r) h
       go false h = h
 
-  pub in_all : (d : List Event) → Within a (a + x) d → events_in a x d ≡ d
-  unfolding events_in begun_in
-  in_all [] h = refl
-  in_all (v ∷ d) h = rw (lt-ltb a v.entry.first h.0.0.0, le-leb v.entry.first (a + x) h.0.0.1, in_all d h.1)
-
   pub in_below : (y : ℕ) (d : List Event) → Within y a d → events_in a x d ≡ []
   unfolding events_in begun_in
   in_below y [] h = refl
   in_below y (v ∷ d) h = rw (le-ltb a v.entry.first h.0.0.1) (in_below y d h.1)
+
+  pub in_all : (d : List Event) → Within a (a + x) d → events_in a x d ≡ d
+  unfolding events_in begun_in
+  in_all [] h = refl
+  in_all (v ∷ d) h = rw (lt-ltb a v.entry.first h.0.0.0, le-leb v.entry.first (a + x) h.0.0.1, in_all d h.1)
 
   pub in_above : (z : ℕ) (d : List Event) → Within 0 z d → events_in a x (raise_events (a + x) d) ≡ []
   unfolding events_in begun_in raise

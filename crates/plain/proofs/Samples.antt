@@ -13,7 +13,7 @@ use Rattle.text.specs.Byte.{Bytes, ascii, is_empty, every, equals, starts_with}
 use Rattle.text.specs.Field.{cut}
 use Rattle.text.specs.Identifier.{esi_id_size, is_name, is_duns}
 use Rattle.text.specs.Number.{number_from, digits_of, leading, behind}
-use Rattle.lines.specs.Line.{LF, drop_cr, ends_with_cr, ended_line, is_long, kind_of}
+use Rattle.lines.specs.Line.{LF, CR, drop_cr, ends_with_cr, ended_line, is_long, kind_of}
 use Rattle.lines.specs.Row.{fields_of}
 use Rattle.headers.specs.Time.{is_time, time_of, stamp_of, is_below, stops_day, is_whole_day}
 use Rattle.headers.specs.One.{channel_number, channel_of, day_of, one_of, row_one}
@@ -49,6 +49,10 @@ no_meters = 1 ∷ ascii "2008051001"
 unfoldable pub hello : Bytes
 hello = ascii "hello" ++ (LF ∷ ascii "00000001,7") ++ (LF ∷ [])
 
+-- empty lines, with and without a CR, and lines that are skipped: behind a stray run's first, line 2, and behind that of a refused record, line 5
+unfoldable pub skipped : Bytes
+skipped = LF ∷ ascii "hello" ++ (LF ∷ CR ∷ LF ∷ ascii "100000") ++ (LF ∷ ascii "00000001,7") ++ (LF ∷ LF ∷ hello)
+
 -- the same window, an owner, and a meter of theirs that is set up for interval data and has profile IDR
 unfoldable pub one_meter : Bytes
 one_meter =
@@ -79,11 +83,16 @@ pub record Samples : Type 0 where
   -- both fall in the feed, none at finish
   pub hello-answers : plain_answers (rules_of no_meters) [] fresh (one_file hello)
       ≡ record { number = 0; count = 2; entries = entry_of 1 10 1 0 0 ∷ entry_of 2 14 2 0 0 ∷ [] } ∷ record { number = 0; count = 0; entries = [] } ∷ []
+  -- every line is counted; the runs and records begin at lines 2, 5 and 8, and no other line says anything
+  pub skipped-report : alone (rules_of no_meters) [] skipped ≡ entry_of 2 10 2 0 0 ∷ entry_of 5 14 5 0 0 ∷ entry_of 8 14 8 0 0 ∷ []
   -- begun at line 1, loaded, its last row at line 29, meter 1
   pub record-report : alone (rules_of one_meter) empty_table (record_text 24) ≡ entry_of 1 0 29 1 20080510 ∷ []
   -- 96 intervals, the stamp, no marks, 1,000 Wh each; the generation cell stays empty
   pub record-table : alone_table (rules_of one_meter) empty_table (record_text 24)
       ≡ (96 ∷ 20080511 ∷ 10203 ∷ []) ++ replicate 4 0 ++ replicate 96 1000 ++ replicate (4 + width) 0
+  -- `hello` behind it, at line 30, loads it and begins a stray run
+  pub stray-report : alone (rules_of one_meter) empty_table (record_text 24 ++ hello)
+      ≡ entry_of 1 0 29 1 20080510 ∷ entry_of 30 10 30 0 0 ∷ entry_of 31 14 31 0 0 ∷ []
   -- a row short of the day at finish, one past its 28 lines; and a surplus row, at line 30
   pub short-report : alone (rules_of one_meter) empty_table (record_text 23) ≡ entry_of 1 12 29 0 20080510 ∷ []
   pub surplus-report : alone (rules_of one_meter) empty_table (record_text 25) ≡ entry_of 1 22 30 1 20080510 ∷ []
@@ -100,13 +109,15 @@ unfolding alone alone_table joined plain_answers plain_table plain_call by_numbe
     judge meter_checks flag_checks has_flag day_in in_window
     cleared begun with_stamp with_interval with_intervals cell_at put_cell holds_none merge loaded
     channel_number cell_count cell_number is_address
-    no_meters hello one_meter detail_text record_text
+    no_meters hello skipped one_meter detail_text record_text
 samples =
     record {
       hello-report = refl;
       hello-answers = refl;
+      skipped-report = refl;
       record-report = refl;
       record-table = refl;
+      stray-report = refl;
       short-report = refl;
       surplus-report = refl;
     }

@@ -18,7 +18,7 @@ ghost use Rattle.records.specs.Answer.{begun_by, rows_of, header_says, checked_s
 ghost use Rattle.records.specs.declared.Parts.{Parts};
 
 use calendar::intervals_on;
-use cell::{Cell, Words, begin, put_interval, put_stamp};
+use cell::{Cell, Words, put_interval, put_stamp};
 use checks::judge;
 use details::detail::{PER_ROW, Row, read_detail};
 use headers::one::{Channel, One};
@@ -82,7 +82,8 @@ fn begin_record(one: One<'_>, parts: &mut Parts) -> Progress
     let count = intervals_on(one.day);
     put_padded(&mut parts.id, one.id);
     put_padded(&mut parts.sender, b"");
-    begin(&mut parts.words, count);
+    let words = Cell::begun(count).words;
+    parts.words = words;
     Progress {
         read: 0,
         due: count / PER_ROW,

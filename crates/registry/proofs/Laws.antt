@@ -16,21 +16,13 @@ use Rattle.padded.specs.Padding.{is_padded_esi_id, is_padded_duns}
 use Rattle.std.specs.declared.cmp.Ordering.TheVariants.{Less}
 use Rattle.padded.proofs.Bytewise.{order_trans}
 use Rattle.registry.specs.Entry.{window_size, owner_size, max_days, all_flags, start_of}
-use Rattle.registry.specs.Registry.{Registry, Meter, Seen, max_meters, none_seen, entries, start_with, registry_of, meters_in, no_window, window_in, is_registry, meters_of, window_is}
+use Rattle.registry.specs.Registry.{Registry, Meter, Seen, max_meters, none_seen, entries, start_with, registry_of, no_window, window_in, is_registry, meters_of, window_is}
 use Rattle.registry.specs.Index.{no_meter, meter_at, index_of}
 use Rattle.registry.specs.declared.entry.Window.{Window}
 use Rattle.registry.proofs.Opening.{Kept, start-kept}
 use Rattle.registry.proofs.Reading.{Read, end, owner, meter, OwnerBody, meters-read}
 
--- ---- WHERE A RULE IS BROKEN there is no meter and no window.
-
-pub unsound_meters : (reg : Bytes) → is_registry reg ≡ false → meters_of reg ≡ []
-unfolding is_registry meters_of
-unsound_meters reg = go (registry_of reg)
-  where
-    go : (x : Option Registry) → is_some x ≡ false → meters_in x ≡ []
-    go None e = refl
-    go (Some r) e = absurd (apart (sym e))
+-- ---- WHERE A RULE IS BROKEN there is no window.
 
 pub unsound-window : (reg : Bytes) → is_registry reg ≡ false → window_is reg ≡ no_window
 unfolding is_registry window_is

@@ -14,8 +14,9 @@ pub mod verdict;
 pub mod words;
 
 // One unit's verdict in the report: its first line, the verdict, the deciding line, the meter (1 upward; 0 unknown), the day as YYYYMMDD (0 unknown). Its
-// fields are numbers, as document 01 has them: an entry may be read back from any words.
+// fields are numbers, as document 01 has them: an entry may be read back from any words. C has it as a struct of the same fields.
 #[derive(Clone, Copy, Debug, PartialEq, Eq)]
+#[repr(C)]
 pub struct Entry {
     pub first: u32,
     pub verdict: u32,

@@ -24,7 +24,7 @@ use Rattle.cell.proofs.Built.{built_holds}
 use Rattle.reads.proofs.Held.{holds_unique}
 use Rattle.reads.proofs.Scan.{unmarked}
 use Rattle.reads.proofs.SoundParts.{SoundParts, sound-parts}
-use Rattle.roundtrip.specs.RoundTrip.{Fits}
+use Rattle.writer.specs.Write.{Fits}
 
 -- ---- the first n intervals of a read
 

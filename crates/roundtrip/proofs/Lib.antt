@@ -7,4 +7,3 @@ pub mod MeterBack
 pub mod LinesBack
 pub mod RecordBack
 pub mod RoundTrip
-pub mod RealCalls

@@ -36,12 +36,12 @@ use Rattle.checks.specs.Check.{Passed, judge}
 use Rattle.rowtext.specs.Value.{value_end}
 use Rattle.rowtext.specs.Text.{line_one, line_two, line_three, line_four, line_thirty}
 use Rattle.writer.specs.Record.{detail_line, detail_lines, record_lines, record_text}
+use Rattle.writer.specs.Write.{Fits}
 use Rattle.plain.specs.Rows.{Record, goes_on, complete, header_rows, max_details, begins, first_row, checked, rules_of}
 use Rattle.plain.specs.Record.{RecordLines, RecordSays, detail_rows, record_says, read_of, said_rows, lines_behind, rows_from}
 use Rattle.plain.specs.Loader.{loading, file_events}
 use Rattle.plain.proofs.Pieces.{map-append}
 use Rattle.plain.proofs.WholeRecord.{whole-record}
-use Rattle.roundtrip.specs.RoundTrip.{Fits}
 use Rattle.roundtrip.proofs.CellBack.{intervals_in, cell-back}
 use Rattle.roundtrip.proofs.LinesBack.{IsBehind, LineBehind, AllBehind, record-loads}
 use Rattle.roundtrip.proofs.RowsBack.{channel_at, one-back, two_back, three_back, four-back, thirty-back, detail_back}

@@ -32,7 +32,7 @@ use Rattle.cells.proofs.Found.{cell-within}
 use Rattle.cells.proofs.Numbers.{number-below}
 use Rattle.cells.proofs.Passed.{FoundCell, found-cell}
 use Rattle.writer.specs.Record.{cell_text}
-use Rattle.writer.specs.Write.{written_record}
+use Rattle.writer.specs.Write.{Fits, written_record}
 use Rattle.plain.specs.Rows.{Load, header_rows, rules_of}
 use Rattle.plain.specs.Table.{load_one, load_all}
 use Rattle.plain.specs.Loader.{Event, start, loading, entries_of, loads_of, file_from, file_events}
@@ -43,7 +43,7 @@ use Rattle.plain.proofs.Lawful.{Lawful}
 use Rattle.plain.proofs.Rules.{lawful}
 use Rattle.plain.proofs.Calls.{Follows, fresh_kept, follow, follow-answers, follow-table}
 use Rattle.plain.proofs.File.{plain-loads, plain-entries, report-joined, only-file}
-use Rattle.roundtrip.specs.RoundTrip.{Fits, Cleared, IsWritten, entry_for, ReadsBack, TheRoundTrip}
+use Rattle.roundtrip.specs.RoundTrip.{Cleared, IsWritten, entry_for, ReadsBack, TheRoundTrip}
 use Rattle.roundtrip.proofs.CellBack.{zeros-at}
 use Rattle.roundtrip.proofs.MeterBack.{meter-back}
 use Rattle.roundtrip.proofs.RecordBack.{Writable, record-back}

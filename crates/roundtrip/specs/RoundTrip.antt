@@ -1,7 +1,7 @@
 -- A written record reads back to the day it came from. Document 01, demand 2, and "Calls": loaded into a cleared table it gives that cell,
 -- where the meter's flags are 6. Its theorem is `round_trip` in proofs/RoundTrip.
 -- Assumes nothing.
-use Rattle.std.specs.Prelude.{◌≡◌, List, [], ◌∷◌, ℕ, suc, ◌+◌, ◌/◌, ◌^◌, ◌<◌, length, get_or, replicate}
+use Rattle.std.specs.Prelude.{◌≡◌, List, [], ◌∷◌, ℕ, suc, ◌+◌, ◌/◌, length, get_or, replicate}
 use Rattle.calendar.specs.Day.{date_of}
 use Rattle.text.specs.Byte.{Bytes}
 use Rattle.report.specs.Outcome.{passed}
@@ -10,7 +10,7 @@ use Rattle.details.specs.Detail.{per_row}
 use Rattle.registry.specs.Registry.{window_is}
 use Rattle.registry.specs.Index.{meter_at}
 use Rattle.checks.specs.Check.{interval_flag, idr_flag}
-use Rattle.cell.specs.Layout.{Words, count_at, word_bits}
+use Rattle.cell.specs.Layout.{Words, count_at}
 use Rattle.reads.specs.Load.{put_cell}
 use Rattle.cells.specs.Address.{cell_of}
 use Rattle.cells.specs.Sound.{sound_cell}
@@ -19,11 +19,7 @@ use Rattle.plain.specs.Rows.{header_rows, rules_of}
 use Rattle.plain.specs.Call.{fresh}
 use Rattle.plain.specs.Promise.{Made, view_from, Chain}
 use Rattle.plain.specs.Claim.{OnlyFinish, taken_by, report_of, last_table}
-use Rattle.writer.specs.Write.{written_record}
-
--- a lent run of 32-bit words
-abbrev pub Fits : Words → Type 0
-Fits words = (k : ℕ) → get_or words k 0 < 2 ^ word_bits
+use Rattle.writer.specs.Write.{Fits, written_record}
 
 -- document 01's "cleared table" has 0 in every word
 abbrev pub Cleared : Words → Type 0

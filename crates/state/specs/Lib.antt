@@ -1,3 +1,5 @@
--- What is kept between calls: its view, and what a call on it returns.
+-- What is kept between calls: the fresh one, the view of any, and what a call on it returns.
+pub mod Fresh
 pub mod View
 pub mod Refused
+pub mod Contract

@@ -11,9 +11,7 @@
 #![tactic(auto)]
 
 ghost use Rattle.std.specs.Prelude.{◌≡◌};
-ghost use Rattle.plain.specs.Call.{fresh as freshly};
-ghost use Rattle.plain.specs.Promise.{view_from};
-ghost use Rattle.state.specs.View.{view_of};
+ghost use Rattle.state.specs.Fresh.{fresh_state};
 
 pub mod refuse;
 
@@ -34,10 +32,12 @@ pub struct State {
     pub taken: usize,
 }
 
-#[tactic(auto, unfolding(crate::specs::View::view_of, plain::specs::Promise::view_from, plain::specs::Promise::cut_to))]
+// The state before a file's first byte.
+#[tactic(auto, unfolding(crate::specs::Fresh::fresh_state))]
 pub fn fresh() -> State
-    ensures { view_of result ≡ view_from freshly }
+    ensures { result ≡ fresh_state }
 {
+    let words = Cell::cleared().words;
     State {
         scan: Scan {
             kept: [0; KEPT_LIMIT],
@@ -47,7 +47,7 @@ pub fn fresh() -> State
             parts: Parts {
                 id: [b' '; ESI_ID_SIZE],
                 sender: [b' '; DUNS_SIZE],
-                words: [0; Cell::WIDTH],
+                words,
             },
         },
         taken: 0,

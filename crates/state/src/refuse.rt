@@ -1,5 +1,5 @@
 // What a call returns: refusal 1 by what the state holds, 2 to 5 by the registry and the lengths.
-ghost use Rattle.std.specs.Prelude.{◌≡◌, IfOk, length, ltb};
+ghost use Rattle.std.specs.Prelude.{◌≡◌, IfOk, length};
 ghost use Rattle.lines.specs.Line.{kept_limit};
 ghost use Rattle.report.specs.Outcome.{answers, number_of};
 ghost use Rattle.plain.specs.Promise.{details_in, overfull};

@@ -12,13 +12,22 @@ use Rattle.headers.specs.One.{channel_number}
 use Rattle.headers.specs.declared.one.Channel.{Channel}
 use Rattle.headers.specs.declared.one.Channel.TheVariants.{Load, Generation}
 use Rattle.cell.specs.Layout.{Words, width}
-use Rattle.statewords.specs.Layout.{numbers_size, unit_size, numbers_at, unit_at, id_at, sender_at, words_at, state_words, part_at, channel_in, state_of, state_in}
+use Rattle.statewords.specs.Layout.{numbers_size, unit_size, numbers_at, unit_at, id_at, sender_at, words_at, state_words, part_at, wide_in, channel_in, state_of, state_in, number_words}
 
 -- a channel is that of its number
 pub channel_back : (c : Channel) → channel_in (channel_number c) ≡ c
 unfolding channel_number
 channel_back Load = refl
 channel_back Generation = refl
+
+-- a number of 64 bits is that of its words
+pub held_back : (held taken lines : ℕ) → wide_in (number_words held taken lines) 0 ≡ held
+unfolding wide_in
+held_back held taken lines = omega arith
+
+pub taken_back : (held taken lines : ℕ) → wide_in (number_words held taken lines) 2 ≡ taken
+unfolding wide_in
+taken_back held taken lines = omega arith
 
 -- ---- the parts of a list
 
@@ -117,7 +126,7 @@ module _ (ws kept numbers unit id sender words : Words) (l : length ws ≡ state
       z.sender_sized (omega arith))
       z.words_sized (omega arith)
 
-  after_is : after ≡ kept ++ numbers ++ unit ++ id ++ sender ++ words
+  pub after_is : after ≡ kept ++ numbers ++ unit ++ id ++ sender ++ words
   after_is = sym (take_all state_words after (omega (arith, begins-all.long))) ∙ begins-all.begins
 
   pub put_all : state_in after ≡ state_of kept numbers unit id sender words

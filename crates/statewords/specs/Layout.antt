@@ -1,9 +1,10 @@
 -- How a state crosses the border: as a run of 32-bit words. Any words of that length are some state.
 -- Assumes nothing.
-use Rattle.std.specs.Prelude.{map, ℕ, zero, suc, ◌+◌, ◌*◌, ◌%◌, ◌^◌, take, drop, get_or}
+use Rattle.std.specs.Prelude.{[], ◌∷◌, ◌++◌, map, ℕ, zero, suc, ◌+◌, ◌*◌, ◌/◌, ◌%◌, ◌^◌, take, drop, get_or}
 use Rattle.lines.specs.Line.{kept_limit}
 use Rattle.text.specs.Byte.{Bytes}
 use Rattle.text.specs.Identifier.{esi_id_size, duns_size}
+use Rattle.headers.specs.One.{channel_number}
 use Rattle.headers.specs.declared.one.Channel.{Channel}
 use Rattle.headers.specs.declared.one.Channel.TheVariants.{Load, Generation}
 use Rattle.cell.specs.Layout.{Words, width, word_bits}
@@ -36,6 +37,8 @@ words_at = sender_at + duns_size
 
 abbrev pub state_words : ℕ
 state_words = words_at + width
+
+-- ---- THE STATE OF WORDS
 
 abbrev pub part_at : ℕ → ℕ → Words → Words
 part_at at n ws = take n (drop at ws)
@@ -88,3 +91,29 @@ unfoldable pub state_in : Words → State
 state_in ws =
     state_of (part_at 0 kept_limit ws) (part_at numbers_at numbers_size ws) (part_at unit_at unit_size ws) (part_at id_at esi_id_size ws)
     (part_at sender_at duns_size ws) (part_at words_at width ws)
+
+-- ---- THE WORDS OF A STATE
+
+-- low word first
+abbrev pub wide_words : ℕ → Words
+wide_words n = n % 2 ^ word_bits ∷ n / 2 ^ word_bits ∷ []
+
+abbrev pub number_words : (held taken lines : ℕ) → Words
+number_words held taken lines = wide_words held ++ wide_words taken ++ lines ∷ []
+
+-- zeros where a kind has nothing
+abbrev pub unit_words : Unit → Words
+unit_words None = 0 ∷ 0 ∷ 0 ∷ 0 ∷ 0 ∷ 0 ∷ 0 ∷ []
+unit_words (Takes first p) = 1 ∷ first ∷ p.read ∷ p.due ∷ p.day ∷ 0 ∷ channel_number p.channel ∷ []
+unit_words (Waits first last r) = 2 ∷ first ∷ last ∷ r.meter ∷ r.offset ∷ r.day ∷ channel_number r.channel ∷ []
+unit_words Skips = 3 ∷ 0 ∷ 0 ∷ 0 ∷ 0 ∷ 0 ∷ 0 ∷ []
+
+-- the parts, one behind the other
+unfoldable pub words_of : State → Words
+words_of s =
+    s.scan.kept
+    ++ number_words s.scan.held s.taken s.scan.lines
+    ++ unit_words s.scan.unit
+    ++ s.scan.parts.id
+    ++ s.scan.parts.sender
+    ++ s.scan.parts.words

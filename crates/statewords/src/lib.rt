@@ -7,11 +7,12 @@
 //
 // No `From`: channel, unit, scan and words are types of other crates.
 //
-// For whoever changes it: what `put_state` writes is read back as the same state, so a part that moves, moves in both and in specs/Layout.antt.
+// For whoever changes it: what `put_state` writes is read back as the same state, so a part that moves, moves in both, and in `state_in` and `words_of` of
+// specs/Layout.antt.
 #![tactic(auto)]
 
-ghost use Rattle.std.specs.Prelude.{◌≡◌, ◌+◌, ◌<◌, ◌≤◌, length, get_or};
-ghost use Rattle.statewords.specs.Layout.{numbers_size, state_words, part_at, bytes_in, wide_in, channel_in, unit_from, state_in};
+ghost use Rattle.std.specs.Prelude.{◌≡◌, ◌+◌, ◌<◌, ◌≤◌, length};
+ghost use Rattle.statewords.specs.Layout.{numbers_size, state_words, part_at, bytes_in, wide_in, channel_in, unit_from, state_in, number_words, unit_words, words_of};
 
 use cell::Cell;
 use cell::mark::WORD_BITS;
@@ -150,7 +151,8 @@ pub fn state_in(state: &[u32; STATE_WORDS]) -> State
 
 #[tactic(auto, unfolding(crate::specs::Layout::unit_from), using(crate::proofs::Parts::channel_back))]
 fn unit_words(unit: Unit) -> [u32; UNIT_SIZE]
-    ensures { unit_from result ≡ unit }
+    ensures words { result ≡ unit_words unit }
+    ensures back { unit_from result ≡ unit }
 {
     match unit {
         Unit::None => [0, 0, 0, 0, 0, 0, 0],
@@ -169,9 +171,8 @@ fn unit_words(unit: Unit) -> [u32; UNIT_SIZE]
 }
 
 // The bytes held, the bytes taken and the line count.
-#[tactic(auto, unfolding(crate::specs::Layout::wide_in))]
 fn number_words(held: usize, taken: usize, lines: u32) -> [u32; NUMBERS_SIZE]
-    ensures { (wide_in result 0 ≡ held) × (wide_in result 2 ≡ taken) × (get_or result 4 0 ≡ lines) }
+    ensures { result ≡ number_words held taken lines }
 {
     [
         (held % SPAN) as u32,
@@ -182,9 +183,10 @@ fn number_words(held: usize, taken: usize, lines: u32) -> [u32; NUMBERS_SIZE]
     ]
 }
 
-// The words of a state.
+// The words of a state, each of them, and these are that state.
 pub fn put_state(state: &mut [u32; STATE_WORDS], given: &State)
-    ensures { state_in state.new ≡ given.now }
+    ensures words { state.new ≡ words_of given.now }
+    ensures back { state_in state.new ≡ given.now }
 {
     let scan = &given.scan;
     let parts = &scan.parts;

@@ -1,5 +1,5 @@
 // Classes of bytes, and texts compared: std's methods, in the words of the definitions that all rows cite.
-ghost use Rattle.std.specs.Prelude.{◌≡◌, Bool, length};
+ghost use Rattle.std.specs.Prelude.{◌≡◌, Bool};
 ghost use Rattle.text.specs.Byte.{is_digit, is_alnum, is_empty, every, equals, starts_with};
 
 pub fn is_digit(b: u8) -> bool

@@ -2,3 +2,5 @@
 pub mod Records
 pub mod Answers
 pub mod Done
+-- The call asks nothing.
+pub mod Asks

@@ -6,7 +6,7 @@ use mathlib.Core.Bool.{Bool, true, false}
 use Prim.Native.Nat.{ℕ, zero, suc, ◌+◌, ◌*◌, ◌/◌, ◌<◌, ◌≤◌}
 use native.Mathlib.Numerals.{add-one}
 use native.Mathlib.Omega.{arith}
-use lib.ListN.{length, get_or, length-append, length-drop, take-append-drop}
+use lib.ListN.{length, get_or, length-append, length-drop}
 use lib.Dec.{eqb}
 use lib.Seq.{get_or-drop}
 use borrow.Author.Tests.{leb-true, eqb-true, eqb-false}

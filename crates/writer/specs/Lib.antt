@@ -2,3 +2,4 @@
 pub mod Record
 pub mod Write
 pub mod Private
+pub mod Contract

@@ -18,7 +18,7 @@ ghost use Rattle.text.specs.Byte.{every};
 ghost use Rattle.rowtext.specs.Text.{rows};
 ghost use Rattle.writer.specs.Record.{row_of, detail_lines, record_text, cell_text};
 ghost use Rattle.writer.specs.Private.{Writable};
-ghost use Rattle.writer.specs.Write.{fitting, writes, length_of, output_with};
+ghost use Rattle.writer.specs.Write.{Fits, fitting, writes, length_of, output_with};
 
 use calendar::date_of;
 use cell::{Cell, Words, interval_in, stamp_in};
@@ -120,6 +120,7 @@ pub fn write(
 ) -> Result<usize, Refusal>
     ensures answer { answers result ≡ length_of (writes registry.now table.now at.meter at.channel at.day descriptor.now output.old) }
     ensures bytes { output.new ≡ output_with output.old (writes registry.now table.now at.meter at.channel at.day descriptor.now output.old) }
+    ensures words { Fits table.now }
 {
     let index = Index::of(registry).ok_or(Refusal::BadRegistry)?;
     let words = find_sound(&index, table, at)?;

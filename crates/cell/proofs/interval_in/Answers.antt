@@ -5,4 +5,4 @@ use Rattle.cell.proofs.interval_in.Goals as goal
 
 pub returns : goal.returns
 unfolding interval_in
-returns c = rw c.is_marked.ensures
+returns c = rw c.is_marked.ensures.bit

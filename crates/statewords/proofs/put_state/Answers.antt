@@ -2,30 +2,50 @@
 -- Assumes nothing.
 use mathlib.Core.Path.{◌∙◌}
 use Rattle.std.proofs.Common.{rules}
-use Rattle.statewords.proofs.Parts.{put_all}
+use Rattle.statewords.specs.Layout.{words_of}
+use Rattle.statewords.proofs.Parts.{Sized, after_is, put_all, held_back, taken_back}
 use Rattle.statewords.proofs.put_state.Goals as goal
 
-pub returns : goal.returns
-returns c =
-    put_all c.args.state.now c.put_bytes.new.to c.copy_from_slice.new.self c.copy_from_slice-2.new.self c.put_bytes-2.new.to c.put_bytes-3.new.to
-    c.copy_from_slice-3.new.self (search rules)
-    (record {
+sized : (c : goal.After-copy_from_slice-3) → Sized c.put_bytes.new.to c.copy_from_slice.new.self c.copy_from_slice-2.new.self c.put_bytes-2.new.to c.put_bytes-3.new.to c.copy_from_slice-3.new.self
+sized c =
+    record {
       kept_sized = rw c.put_bytes.ensures.put (search rules);
       numbers_sized = rw c.copy_from_slice.ensures.after (search rules);
       unit_sized = rw c.copy_from_slice-2.ensures.after (search rules);
       id_sized = rw c.put_bytes-2.ensures.put (search rules);
       sender_sized = rw c.put_bytes-3.ensures.put (search rules);
       words_sized = rw c.copy_from_slice-3.ensures.after (search rules);
-    })
+    }
+
+pub returns-clause-words : goal.returns-clause-words
+unfolding words_of
+returns-clause-words c =
+    after_is c.args.state.now c.put_bytes.new.to c.copy_from_slice.new.self c.copy_from_slice-2.new.self c.put_bytes-2.new.to c.put_bytes-3.new.to
+    c.copy_from_slice-3.new.self (search rules) (sized c)
+    ∙ rw (
+      c.put_bytes.ensures.put,
+      c.copy_from_slice.ensures.after,
+      c.number_words-numbers.ensures,
+      c.copy_from_slice-2.ensures.after,
+      c.unit_words-unit.ensures.words,
+      c.put_bytes-2.ensures.put,
+      c.put_bytes-3.ensures.put,
+      c.copy_from_slice-3.ensures.after,
+    )
+
+pub returns-clause-back : goal.returns-clause-back
+returns-clause-back c =
+    put_all c.args.state.now c.put_bytes.new.to c.copy_from_slice.new.self c.copy_from_slice-2.new.self c.put_bytes-2.new.to c.put_bytes-3.new.to
+    c.copy_from_slice-3.new.self (search rules) (sized c)
     ∙ rw (
       c.put_bytes.ensures.put,
       c.put_bytes.ensures.bytes,
       c.copy_from_slice.ensures.after,
-      c.number_words-numbers.ensures.0,
-      c.number_words-numbers.ensures.1,
-      c.number_words-numbers.ensures.2,
+      c.number_words-numbers.ensures,
+      held_back c.args.given.now.scan.held c.args.given.now.taken c.args.given.now.scan.lines,
+      taken_back c.args.given.now.scan.held c.args.given.now.taken c.args.given.now.scan.lines,
       c.copy_from_slice-2.ensures.after,
-      c.unit_words-unit.ensures,
+      c.unit_words-unit.ensures.back,
       c.put_bytes-2.ensures.put,
       c.put_bytes-2.ensures.bytes,
       c.put_bytes-3.ensures.put,

@@ -17,7 +17,7 @@ pub cell_number-requires-clause-among : goal.cell_number-requires-clause-among
 cell_number-requires-clause-among c =
     record {
       meter = c.if-at-meters.true;
-      channel = rw c.from-2.ensures (channel-below c.in-Waits.ready.channel);
+      channel = rw c.from-2.ensures (channel-below _);
       day = omega (arith, c.if-at-days.true);
     }
 

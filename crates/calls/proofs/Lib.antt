@@ -1,0 +1,2 @@
+-- What several clauses of a contract tell together.
+pub mod Told

@@ -1,0 +1,2 @@
+-- A call that a program makes.
+pub mod RealCall
