@@ -176,7 +176,8 @@ pub fn odd_value(rng: &mut Rng) -> Vec<u8> {
 }
 
 const TIMES: &str = "20080309000000|20080309235900|20080309235959|20080308235900|20080310000000|\
-    20080310235900|20080309000001|20081102000000|20081102235900|20070101000000|20991231000000|\
+    20080310235900|20080309235958|20080309235960|20080308235959|20080310235959|20080309000001|\
+    20081102000000|20081102235900|20070101000000|20991231000000|\
     20991231235900|20061231235900|21000101000000|20080229000000|20070229000000|20081301000000|\
     20080001000000|20080400000000|20080431000000|20080309240000|20080309236000|20080309235960|\
     2008030900000|200803090000000|2008030900000a|";
@@ -335,7 +336,12 @@ fn some_record(rng: &mut Rng, w: &World) -> Vec<Vec<u8>> {
     let (date, clock) = stamp(rng);
     let values = rng.pick(&[Values::Usual, Values::EveryLength]);
     let channel = rng.pick(b"41");
-    sample::record(rng, &meter, channel, day, &format!("{date:08}{clock:06}"), values)
+    let stamp = format!("{date:08}{clock:06}");
+    let mut lines = sample::record(rng, &meter, channel, day, &stamp, values);
+    if rng.one_in(3) {
+        sample::stop_late(&mut lines[0]);
+    }
+    lines
 }
 
 /// A record, right or with changes of one kind or another.

@@ -198,6 +198,20 @@ pub fn with_ends(file: &[u8], end: &[u8]) -> Vec<u8> {
     with
 }
 
+/// A right row one whose day stops at 23:59:59.
+pub fn stop_late(row_one: &mut [u8]) {
+    let clock = row_one.len() - b"235900,Y,N".len();
+    row_one[clock..][..6].copy_from_slice(b"235959");
+}
+
+/// The same file, of right records, whose days stop at 23:59:59.
+pub fn stopping_late(file: &[u8]) -> Vec<u8> {
+    let mut late = file.to_vec();
+    let lines = late.split_mut(|&b| b == b'\n');
+    lines.filter(|line| line.starts_with(b"00000001,")).for_each(stop_late);
+    late
+}
+
 /// Damages a record's lines in one of the ways that happen.
 pub fn damage(rng: &mut Rng, lines: &mut Vec<Vec<u8>>) {
     let i = rng.below(lines.len());

@@ -1,12 +1,12 @@
 //! The speed of the library beside that of the two loaders in Rust, as a table for docs/SPEED.md.
 //!
 //!     cargo run --release --manifest-path bench/Cargo.toml --bin bench \
-//!         [-- [--quick] [--odd | --reports] [RUNS]]
+//!         [-- [--quick] [--odd | --forms | --reports] [RUNS]]
 //!
 //! Files stand in memory; the table is cleared before each load, outside the time. The loaders take
 //! turns, so that all see the same machine, and medians are shown. What they load is compared too.
-//! `--odd` has files that are not as they should be instead, `--reports` reports of entries beside
-//! reports of words.
+//! `--odd` has files that are not as they should be instead, `--forms` the realistic file in other
+//! forms beside itself, `--reports` reports of entries beside reports of words.
 
 use kilnsorrel_bench::kilnsorrel::{self, State};
 use kilnsorrel_bench::reference::{self, CELL_WORDS, MAX_RECORD};
@@ -165,17 +165,19 @@ fn show_calls(what: &str, calls: usize, runs: usize, mut call: impl FnMut(bool, 
 
 const SIZES: [(usize, &str); 3] = [(4096, "4 KiB"), (65536, "64 KiB"), (1 << 20, "1 MiB")];
 
-/// Loads of four files, the first given, in pieces of each size; the table as the last left it.
+/// Loads of five files, the first given, in pieces of each size; the table as the last left it.
 fn loads(rng: &mut Rng, world: &World, realistic: Vec<u8>, runs: usize) -> Vec<u32> {
     let every_length = sample::file(rng, world, Values::EveryLength, 0);
     let damaged = sample::file(rng, world, Values::Usual, 50);
     let with_crs = sample::with_ends(&realistic, b"\r\n");
+    let late = sample::stopping_late(&realistic);
     let mut job = Job::new(world, realistic);
     let files = [
         ("realistic", None),
         ("values of every length", Some(every_length)),
         ("5 % of records damaged", Some(damaged)),
         ("realistic, lines end with CR LF", Some(with_crs)),
+        ("realistic, days stop at 235959", Some(late)),
     ];
     for (name, file) in files {
         if let Some(file) = file {
@@ -201,6 +203,24 @@ fn odd_loads(rng: &mut Rng, world: &World, realistic: Vec<u8>, runs: usize) {
     for (name, file) in files {
         job.file = file;
         show_load(&format!("load, {name}, 1 MiB, MB/s"), &mut job, ALL, 1 << 20, runs);
+    }
+}
+
+/// The library with the realistic file in other forms beside itself, in pieces of 1 MiB.
+fn forms(world: &World, realistic: Vec<u8>, runs: usize) {
+    println!("| | in that form | as it is | form to file |");
+    println!("|---|---:|---:|---:|");
+    let forms = [
+        ("days stop at 235959", sample::stopping_late(&realistic)),
+        ("lines end with CR LF", sample::with_ends(&realistic, b"\r\n")),
+    ];
+    for (name, form) in forms {
+        let mut jobs = [Job::new(world, form), Job::new(world, realistic.clone())];
+        let times: [Vec<f64>; 2] = turns(runs, |i| {
+            let seconds = jobs[i].load(Library, 1 << 20).0;
+            seconds * realistic.len() as f64 / jobs[i].file.len() as f64
+        });
+        show(&format!("load, {name}, 1 MiB, MB/s"), realistic.len() as f64 / 1e6, &times, 2);
     }
 }
 
@@ -264,8 +284,8 @@ fn main() {
         match word.parse() {
             Ok(n) if n > 0 => runs = n,
             _ if word == "--quick" => (days, some_calls) = (6, 500),
-            _ if word == "--odd" || word == "--reports" => only = word,
-            _ => panic!("bench [--quick] [--odd | --reports] [RUNS]"),
+            _ if ["--odd", "--forms", "--reports"].contains(&&word[..]) => only = word,
+            _ => panic!("bench [--quick] [--odd | --forms | --reports] [RUNS]"),
         }
     }
     let rng = &mut Rng::new(1);
@@ -276,6 +296,9 @@ fn main() {
     println!("Medians of {runs} runs. MB are 10^6 bytes.\n");
     if only == "--reports" {
         return reports(&world, file, runs);
+    }
+    if only == "--forms" {
+        return forms(&world, file, runs);
     }
     println!("{COLUMNS}");
     if only == "--odd" {

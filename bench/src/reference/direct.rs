@@ -28,7 +28,10 @@ pub fn one_direct(line: &[u8]) -> Option<RowOne<'_>> {
         _ => return None,
     };
     let a = load8(tail, 3);
-    if a != load8(tail, 18) || &tail[11..18] != b"000000," || &tail[26..] != b"235900,Y,N" {
+    if a != load8(tail, 18) || &tail[11..18] != b"000000," {
+        return None;
+    }
+    if &tail[26..] != b"235900,Y,N" && &tail[26..] != b"235959,Y,N" {
         return None;
     }
     let a = a ^ ZEROS;

@@ -138,6 +138,9 @@ pub struct RowOne<'a> {
     pub number: u32,
 }
 
+/// The times of day at which a day may stop.
+const DAY_STOPS: [u32; 2] = [235900, 235959];
+
 pub fn one_exact(line: &[u8]) -> Result<RowOne<'_>, u32> {
     let f = opened(line, b"00000001", 7)?;
     let esi = f.get(1);
@@ -157,7 +160,7 @@ pub fn one_exact(line: &[u8]) -> Result<RowOne<'_>, u32> {
     if (start.date, start.clock) >= (stop.date, stop.clock) {
         return Err(16);
     }
-    if start.clock != 0 || stop.date != start.date || stop.clock != 235900 {
+    if start.clock != 0 || stop.date != start.date || !DAY_STOPS.contains(&stop.clock) {
         return Err(17);
     }
     Ok(RowOne { esi, channel, date: start.date, number: start.number })

@@ -1,6 +1,6 @@
--- Times of 14 digits, the stamp of a read, and a day's start and stop. Document 01, "Rows".
+-- Times of 14 digits, the stamp of a read, and a day's start and stop. Document 01, "Rows"; document 02, S-1.
 -- Assumes nothing.
-use Rattle.std.specs.Prelude.{Bool, ◌&&◌, ℕ, ◌+◌, ◌*◌, eqb, ltb, length, take, drop}
+use Rattle.std.specs.Prelude.{Bool, ◌&&◌, ◌||◌, ℕ, ◌+◌, ◌*◌, eqb, ltb, length, take, drop}
 use Rattle.calendar.specs.Date.{is_date}
 use Rattle.calendar.specs.Clock.{is_clock}
 use Rattle.text.specs.Byte.{Bytes, is_digit, every}
@@ -52,14 +52,17 @@ moment t = t.date * 1000000 + t.clock
 unfoldable pub is_below : Time → Time → Bool
 is_below start stop = ltb (moment start) (moment stop)
 
--- 23:59:00
+-- 23:59:00, which Write puts
 abbrev pub day_stop : ℕ
 day_stop = 235900
 
--- The clock times that stop a day. For whoever changes it: the stop is read in a second, quick place too, usual::one, which looks for the digits of
--- `day_stop` alone; `stop_text` in usual/proofs/UsualOne shows that they stop a day.
+-- 23:59:59. Document 02, S-1.
+abbrev pub last_second : ℕ
+last_second = 235959
+
+-- the clock times that stop a day
 unfoldable pub stops_day : ℕ → Bool
-stops_day clock = eqb clock day_stop
+stops_day clock = eqb clock day_stop || eqb clock last_second
 
 -- start is 000000 of a day and stop the stop of that day
 unfoldable pub is_whole_day : Time → Time → Bool

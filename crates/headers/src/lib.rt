@@ -6,9 +6,8 @@
 //
 // Each reads field by field; crate `usual` has a quick way through rows as nearly every file has them, with the same promises.
 //
-// For whoever changes it: a row's rule is its definition in specs/ (One.antt and so on) and nothing else; the stop of a day is
-// `time::stops_day`, a read's stamp is `time::Stamp`, row two's forms are the table in `two`. The stop of a day is read in a second, quick place
-// too, `usual::one`, which looks for the digits of `time::DAY_STOP`: another stop that is taken here and not there is right, and slow.
+// For whoever changes it: a row's rule is its definition in specs/ (One.antt and so on) and nothing else; what stops a day is
+// `time::stops_day`, which the quick reader asks too, a read's stamp is `time::Stamp`, row two's forms are the table in `two`.
 #![tactic(auto)]
 
 pub mod four;

@@ -12,8 +12,10 @@ use text::numbers::number_of;
 
 const TIME_SIZE: usize = DATE_SIZE + CLOCK_SIZE;
 
-// 23:59:00. Row one is written with it (rowtext), and `usual::one` has its digits as bytes.
+// 23:59:00, the stop that row one is written with (rowtext).
 pub const DAY_STOP: u32 = 235900;
+// 23:59:59, with which row one is read too.
+const LAST_SECOND: u32 = 235959;
 
 // A date YYYYMMDD and a time of day HHMMSS. A stamp has the same fields and is another thing: a time is a field of a row, a stamp settles which read wins.
 #[derive(Clone, Copy, Debug, PartialEq, Eq)]
@@ -65,10 +67,11 @@ pub fn is_below(start: Time, stop: Time) -> bool
     moment_of(start) < moment_of(stop)
 }
 
-fn stops_day(clock: u32) -> bool
+// Whether a time of day stops a day. All of row one's readers ask here, the quick one too.
+pub fn stops_day(clock: u32) -> bool
     ensures { result ≡ stops_day clock }
 {
-    clock == DAY_STOP
+    (clock == DAY_STOP) | (clock == LAST_SECOND)
 }
 
 // Whether start is the first second of a day and stop the stop of that day.

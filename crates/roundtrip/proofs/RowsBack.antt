@@ -23,7 +23,7 @@ use Rattle.lines.specs.Line.{NoLf, ends_with_cr, drop_cr, ended_line, line_limit
 use Rattle.report.specs.Outcome.{passed}
 use Rattle.lines.specs.Row.{fields_of}
 use Rattle.lines.specs.declared.line.Kind.TheVariants.{Opener, Detail, Other}
-use Rattle.headers.specs.Time.{date_size, clock_size, day_stop, is_time, time_of, stamp_of, is_below, stops_day, is_whole_day}
+use Rattle.headers.specs.Time.{date_size, clock_size, day_stop, is_time, time_of, stamp_of}
 use Rattle.headers.specs.One.{channel_of, day_of, one_of, row_one}
 use Rattle.headers.specs.Two.{decimal_parts, is_decimal, up_to_digits, fits_form, fit_all, two_of, row_two}
 use Rattle.headers.specs.Three.{row_three}
@@ -32,6 +32,7 @@ use Rattle.headers.specs.Thirty.{sender_name, rep_name, has_duns, ends_thirty, i
 use Rattle.headers.specs.declared.one.Channel.{Channel}
 use Rattle.headers.specs.declared.one.Channel.TheVariants.{Load, Generation}
 use Rattle.headers.specs.declared.time.Stamp.{Stamp}
+use Rattle.headers.proofs.Stops.{day_stop_stops, stop_clock, day_spanned}
 use Rattle.details.specs.Detail.{detail_code, status_of, with_empty, interval_of, four_of as four_intervals, detail_of, row_detail}
 use Rattle.details.specs.declared.detail.Interval.{Interval}
 use Rattle.rowtext.specs.Text.{with_commas, time_text, stamp_text, channel_text, value_text, status_text, interval_fields, row_fields, line_one, line_two, line_three, line_four, line_thirty, line_detail}
@@ -87,9 +88,8 @@ channel-plain zero = refl
 channel-plain (suc c) = refl
 
 day-back : (date : ℕ) → is_date date ≡ true → day_of (time_text date 0) (time_text date day_stop) (ascii "Y") (ascii "N") ≡ passed date
-unfolding day_of equals is_below is_whole_day stops_day is_clock
-day-back date real =
-    rw (time_back date 0 real refl, time_back date day_stop real refl, lt-ltb (date * 1000000 + 0) (date * 1000000 + day_stop) (omega arith), eq-eqb date date refl)
+unfolding is_clock
+day-back date real = day_spanned _ _ date day_stop (time_back date 0 real refl) (time_back date day_stop real (stop_clock day_stop day_stop_stops)) day_stop_stops
 
 module _ (id : Bytes) (c date : ℕ) (named : is_esi_id id ≡ true) where
   one_plain : AllPlain (ascii "00000001" ∷ id ∷ channel_text c ∷ time_text date 0 ∷ time_text date day_stop ∷ ascii "Y" ∷ ascii "N" ∷ [])

@@ -6,9 +6,10 @@
 //
 // For whoever changes it: a row's rule is its definition in headers/specs. `usual_..` owes it only where it takes a line (specs/Answer.antt), so
 // one that takes fewer lines is slower and still right; only the reader in headers gives verdicts. When a rule takes a new form that files will
-// use, as another stop of a day (`one::USUAL_STOP`), let `usual_..` take it too, or such files load more slowly. In rows one and thirty the tests
-// of a shape are joined and none ends them early: they look at few bytes, and a branch at each would cost more. What the five readers do around
-// `usual_..` is written in each: two of those answer a bool, and `map_or_else`, which would take the rest, wants an answer where `if let` wants none.
+// use, let `usual_..` take it too, or such files load more slowly. What stops a day is asked of `headers::time` and has no second place here. In
+// rows one and thirty the tests of a shape are joined and none ends them early: they look at few bytes, and a branch at each would cost more. What
+// the five readers do around `usual_..` is written in each: two of those answer a bool, and `map_or_else`, which would take the rest, wants an answer
+// where `if let` wants none.
 #![tactic(auto)]
 
 pub mod four;

@@ -7,13 +7,13 @@ ghost use Rattle.usual.specs.Answer.{UsualOneSays};
 
 use calendar::is_date;
 use headers::one::{One, read_channel};
+use headers::time::stops_day;
 use lines::line::Line;
 use report::verdict::Verdict;
 use text::bytes::{all_alnum, all_digits, begins, same};
 use text::numbers::number_of;
 
-// Row one as nearly every file has it: behind the ESI ID come 36 bytes, `,4,YYYYMMDD000000,YYYYMMDD` and the bytes of `USUAL_STOP`, whose parts
-// stand at known places.
+// Row one as nearly every file has it: behind the ESI ID come 36 bytes, `,4,YYYYMMDD000000,YYYYMMDDHHMMSS,Y,N`, whose parts stand at known places.
 const USUAL_HEAD: [u8; 9] = *b"00000001,";
 
 const ID_AT: usize = 9;
@@ -36,9 +36,11 @@ const STOP_AT: usize = 18;
 
 const STOP_CLOCK_AT: usize = 26;
 
+const STOP_CLOCK_END: usize = 32;
+
 const USUAL_START: [u8; 7] = *b"000000,";
-// The digits of `headers::time::DAY_STOP`, and the two fields behind them: the proof has them from `day_stop`, and shows that `stops_day` takes them.
-const USUAL_STOP: [u8; 10] = *b"235900,Y,N";
+
+const USUAL_END: [u8; 4] = *b",Y,N";
 
 // What a usual row one gives; any other line is for `headers`.
 fn usual_one(line: &[u8]) -> Option<One<'_>>
@@ -55,6 +57,7 @@ fn usual_one(line: &[u8]) -> Option<One<'_>>
     let id = &line[ID_AT..end];
     let tail = &line[end..];
     let digits = &tail[DAY_AT..CLOCK_AT];
+    let stop = &tail[STOP_CLOCK_AT..STOP_CLOCK_END];
     let shaped = begins(line, &USUAL_HEAD)
         & all_alnum(id)
         & (tail[0] == b',')
@@ -62,12 +65,16 @@ fn usual_one(line: &[u8]) -> Option<One<'_>>
         & all_digits(digits)
         & same(&tail[CLOCK_AT..STOP_AT], &USUAL_START)
         & same(&tail[STOP_AT..STOP_CLOCK_AT], digits)
-        & same(&tail[STOP_CLOCK_AT..], &USUAL_STOP);
+        & all_digits(stop)
+        & same(&tail[STOP_CLOCK_END..], &USUAL_END);
     if !shaped {
         return None;
     }
     let day = number_of(digits);
     if !is_date(day) {
+        return None;
+    }
+    if !stops_day(number_of(stop)) {
         return None;
     }
     let channel = read_channel(&tail[CHANNEL_AT..CHANNEL_END]).ok()?;

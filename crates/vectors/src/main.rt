@@ -68,7 +68,9 @@ fn read_cases(rt: &(impl Files + Print), name: &str) -> io::Result<()> {
     replay_all(rt, &cases[..n])
 }
 
+// Document 01's cases, and then those of document 02's requests, each of which is aimed at what one request changes.
 fn main(rt: HostRuntime) -> io::Result<()> {
     read_cases(&rt, "files.cases")?;
-    read_cases(&rt, "fields.cases")
+    read_cases(&rt, "fields.cases")?;
+    read_cases(&rt, "s01.cases")
 }
