@@ -216,8 +216,11 @@ fn forms(world: &World, realistic: Vec<u8>, runs: usize) {
     ];
     for (name, form) in forms {
         let mut jobs = [Job::new(world, form), Job::new(world, realistic.clone())];
+        let mut first = None;
         let times: [Vec<f64>; 2] = turns(runs, |i| {
-            let seconds = jobs[i].load(Library, 1 << 20).0;
+            let (seconds, loaded) = jobs[i].load(Library, 1 << 20);
+            assert_eq!(*first.get_or_insert(loaded), loaded, "the forms differ");
+            // As if both had the same bytes.
             seconds * realistic.len() as f64 / jobs[i].file.len() as f64
         });
         show(&format!("load, {name}, 1 MiB, MB/s"), realistic.len() as f64 / 1e6, &times, 2);
