@@ -237,6 +237,34 @@ static void written_record_reads_back(void) {
     EXPECT(memcmp(before, cell(0, 0, 0), sizeof before) == 0);
 }
 
+/* ---- Pages ---- */
+
+static int begins(const uint8_t *bytes, const char *text) { return memcmp(bytes, text, strlen(text)) == 0; }
+
+/* A report that takes two pages, the second for one entry alone; and one that takes more pages than there may be. */
+static void pages_are_as_told(void) {
+    enum { ENTRIES = KILNSORREL_PAGE_ENTRIES + 1, WORDS = ENTRIES * KILNSORREL_ENTRY_WORDS };
+    static const uint32_t entries[WORDS] = {1, 12, 29, 2, 20080510};
+    static uint8_t pages[2 * KILNSORREL_PAGE_BYTES + 1];
+    const size_t room = KILNSORREL_PAGES(ENTRIES) * KILNSORREL_PAGE_BYTES, line = 81;
+    const size_t most = (size_t)KILNSORREL_MOST_PAGES * KILNSORREL_PAGE_ENTRIES * KILNSORREL_ENTRY_WORDS;
+    uint32_t *many = (uint32_t *)calloc(most + KILNSORREL_ENTRY_WORDS, sizeof *many);
+    EXPECT(many && room == 2 * KILNSORREL_PAGE_BYTES);
+    memset(pages, '#', sizeof pages);
+    EXPECT(is(kilnsorrel_page(entries, 0, pages, 0), KILNSORREL_DONE, 0));
+    EXPECT(refused(kilnsorrel_page(entries, WORDS, pages, room - 1), KILNSORREL_SHORT_PAGES));
+    EXPECT(refused(kilnsorrel_page(many, most, pages, room), KILNSORREL_SHORT_PAGES));
+    EXPECT(refused(kilnsorrel_page(many, most + KILNSORREL_ENTRY_WORDS, pages, room), KILNSORREL_TOO_MANY_PAGES));
+    free(many);
+    EXPECT(begins(pages, "###") && begins(pages + room - 2, "###"));
+    EXPECT(is(kilnsorrel_page(entries, WORDS, pages, room), KILNSORREL_DONE, 2));
+    EXPECT(begins(pages, "PAGE 00001   ") && begins(pages + KILNSORREL_PAGE_BYTES, "PAGE 00002   "));
+    EXPECT(begins(pages + 2 * line, "         1  12        29     2  20080510Record ends before its last row  "));
+    EXPECT(begins(pages + KILNSORREL_PAGE_BYTES + 2 * line, "         0   0         0     0         0Loaded   "));
+    EXPECT(begins(pages + room - 2, " \n#"));
+    EXPECT(is(kilnsorrel_page(entries, WORDS - 1, pages, KILNSORREL_PAGE_BYTES), KILNSORREL_DONE, 1));
+}
+
 static void *all(void *nothing) {
     sample_is_as_known();
     entries_are_the_words();
@@ -246,6 +274,7 @@ static void *all(void *nothing) {
     cell_calls_refuse();
     feed_and_finish_refuse();
     written_record_reads_back();
+    pages_are_as_told();
     return nothing;
 }
 

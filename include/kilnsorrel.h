@@ -1,6 +1,6 @@
 /*
  * Kilnsorrel: loads LSE interval files into a settlement table, reports on each record, counts estimated
- * intervals, and writes a record. Link with libkilnsorrel.a (`rt lib` in crates/kilnsorrel).
+ * intervals, writes a record, and lays a report out for print. Link with libkilnsorrel.a (`rt lib` in crates/kilnsorrel).
  *
  * A file is streamed in pieces, cut anywhere, and then ended:
  *
@@ -63,11 +63,20 @@ typedef struct kilnsorrel_entry {
 /* No record that write puts out is longer. */
 #define KILNSORREL_RECORD_BYTES 2000
 
+/* An activity page has a heading, an empty line and places for so many entries. It has so many bytes: 60 lines of 80
+ * bytes and an LF. A report of more pages than KILNSORREL_MOST_PAGES is refused. */
+#define KILNSORREL_PAGE_ENTRIES 58
+#define KILNSORREL_PAGE_BYTES 4860
+#define KILNSORREL_MOST_PAGES 99999
+
+/* The pages that so many entries take. */
+#define KILNSORREL_PAGES(entries) (((size_t)(entries) + KILNSORREL_PAGE_ENTRIES - 1) / KILNSORREL_PAGE_ENTRIES)
+
 /* A thread that makes calls needs a stack of so many bytes, besides what the caller's own code uses: feed uses about
  * 64 KB, the other calls less, and the rest is a margin. */
 #define KILNSORREL_STACK_BYTES ((size_t)128 * 1024)
 
-/* Why a call is refused, in the order of the tests. */
+/* Why a call is refused, in the order of the tests; but 12 is tested before 11. */
 enum {
     KILNSORREL_DONE = 0,
     KILNSORREL_BAD_STATE = 1,      /* not of KILNSORREL_STATE_WORDS words, or counts that no calls leave */
@@ -79,7 +88,9 @@ enum {
     KILNSORREL_EMPTY_CELL = 7,     /* the cell holds no read */
     KILNSORREL_UNSOUND_CELL = 8,   /* the cell is not as a load for its day leaves it */
     KILNSORREL_BAD_DESCRIPTOR = 9, /* not 1 to 80 letters or digits */
-    KILNSORREL_SHORT_OUTPUT = 10   /* the record does not fit */
+    KILNSORREL_SHORT_OUTPUT = 10,  /* the record does not fit */
+    KILNSORREL_SHORT_PAGES = 11,   /* the pages do not fit */
+    KILNSORREL_TOO_MANY_PAGES = 12 /* over KILNSORREL_MOST_PAGES pages */
 };
 
 /* The two numbers of an answer. */
@@ -145,6 +156,13 @@ uint64_t kilnsorrel_write(const uint8_t *registry, size_t registry_len,
                           size_t meter, size_t channel, size_t day,
                           const uint8_t *descriptor, size_t descriptor_len,
                           uint8_t *output, size_t output_len);
+
+/*
+ * Lays the entries of a report out on activity pages (docs/FORMAT.md, section 9), from the output's beginning. Words
+ * behind the last whole entry are none, and a report of no entry has no page. Count: the pages, of
+ * KILNSORREL_PAGE_BYTES each; bytes behind them are left alone. Refused 12, 11. Writes: output.
+ */
+uint64_t kilnsorrel_page(const uint32_t *report, size_t report_words, uint8_t *output, size_t output_len);
 
 #ifdef __cplusplus
 }

@@ -11,6 +11,12 @@ pub const ENTRY_WORDS: usize = defined(b"\n#define KILNSORREL_ENTRY_WORDS ");
 pub const CELL_WORDS: usize = defined(b"\n#define KILNSORREL_CELL_WORDS ");
 /// The bytes of the longest record.
 pub const RECORD_BYTES: usize = defined(b"\n#define KILNSORREL_RECORD_BYTES ");
+/// The entries of an activity page.
+pub const PAGE_ENTRIES: usize = defined(b"\n#define KILNSORREL_PAGE_ENTRIES ");
+/// The bytes of an activity page.
+pub const PAGE_BYTES: usize = defined(b"\n#define KILNSORREL_PAGE_BYTES ");
+/// The most pages that a report may have.
+pub const MOST_PAGES: usize = defined(b"\n#define KILNSORREL_MOST_PAGES ");
 
 const fn stands_at(text: &[u8], at: usize) -> bool {
     let mut i = 0;

@@ -16,13 +16,16 @@ mod cells;
 mod every;
 #[path = "differential/loaders.rs"]
 mod loaders;
+#[path = "differential/pages.rs"]
+mod pages;
 #[path = "differential/states.rs"]
 mod states;
 
-/// How often each verdict, each number returned and a written record came up.
+/// How often each verdict, each number returned and a written record came up. 12 asks for a report
+/// that rounds have no time for: pages::most_pages.
 pub struct Seen {
     verdicts: [u64; 36],
-    numbers: [u64; 11],
+    numbers: [u64; 12],
     loaded_back: u64,
 }
 
@@ -49,13 +52,14 @@ fn one_round(seed: u64, seen: &mut Seen) {
         seen.numbers[cells::registry_call(&changed) as usize] += 1;
     }
     states::forged_states(rng, &w, &middle, seen);
+    seen.numbers[pages::some_pages(rng) as usize] += 1;
 }
 
 /// Random rounds; with enough of them every verdict and every number must have come up.
 #[test]
 fn rounds() {
     let (rounds, first) = (setting("ROUNDS", 2000), setting("SEED", 1));
-    let mut seen = Seen { verdicts: [0; 36], numbers: [0; 11], loaded_back: 0 };
+    let mut seen = Seen { verdicts: [0; 36], numbers: [0; 12], loaded_back: 0 };
     for seed in first..first + rounds {
         one_round(seed, &mut seen);
     }

@@ -1,13 +1,15 @@
 //! The speed of the library beside that of the two loaders in Rust, as a table for docs/SPEED.md.
 //!
 //!     cargo run --release --manifest-path bench/Cargo.toml --bin bench \
-//!         [-- [--quick] [--odd | --forms | --reports] [RUNS]]
+//!         [-- [--quick] [--odd | --forms | --pages | --reports] [RUNS]]
 //!
 //! Files stand in memory; the table is cleared before each load, outside the time. The loaders take
 //! turns, so that all see the same machine, and medians are shown. What they load is compared too.
-//! `--odd` has files that are not as they should be instead, `--forms` the realistic file in other
+//! `--pages` lays reports out alone, as the last rows do; `--odd` has files that are not as they should
+//! be instead, `--forms` the realistic file in other
 //! forms beside itself, `--reports` reports of entries beside reports of words.
 
+use kilnsorrel_bench::header::{PAGE_BYTES, PAGE_ENTRIES};
 use kilnsorrel_bench::kilnsorrel::{self, State};
 use kilnsorrel_bench::reference::{self, CELL_WORDS, MAX_RECORD};
 use kilnsorrel_bench::rng::Rng;
@@ -271,6 +273,43 @@ fn calls(world: &World, table: &[u32], calls: usize, runs: usize) {
     });
 }
 
+/// A report of so many entries, as a month gives it, or with any verdict anywhere.
+fn some_report(rng: &mut Rng, entries: u32, any_verdict: bool) -> Vec<Entry> {
+    let entry = |i: u32| {
+        let verdict = match any_verdict || rng.one_in(20) {
+            true => rng.pick(&[0, 10, 12, 13, 15, 17, 20, 22, 30, 31, 34, 35]),
+            false => 0,
+        };
+        let (line, meter) = (1 + 29 * i, 1 + rng.below(1000) as u32);
+        Entry { line, verdict, at: line + 28, meter, day: 20081001 + rng.below(31) as u32 }
+    };
+    (0..entries).map(entry).collect()
+}
+
+/// Entries of a report that are laid out in a second.
+fn pages(rng: &mut Rng, entries: u32, runs: usize) {
+    let mut output = vec![0; PAGE_BYTES * (entries as usize).div_ceil(PAGE_ENTRIES)];
+    for (name, any_verdict) in [("a month's verdicts", false), ("any verdicts", true)] {
+        let mut report = some_report(rng, entries, any_verdict);
+        let mut first = None;
+        let times: [Vec<f64>; 2] = turns(runs, |by| {
+            output.fill(0);
+            let start = Instant::now();
+            let answer = match by {
+                0 => kilnsorrel::page(kilnsorrel::words_of(&mut report), &mut output),
+                _ => reference::page(&report, &mut output),
+            };
+            let seconds = start.elapsed().as_secs_f64();
+            assert_eq!(answer.0, 0);
+            let sum = output.iter().fold(0u64, |s, b| s.wrapping_mul(31).wrapping_add(*b as u64));
+            assert_eq!(*first.get_or_insert(sum), sum, "the pages differ");
+            seconds
+        });
+        let what = format!("pages, {} entries, {name}, entries/s", grouped(entries.into()));
+        show(&what, entries.into(), &times, ALL.len());
+    }
+}
+
 /// What the processor calls itself.
 fn processor() -> String {
     let about = std::fs::read_to_string("/proc/cpuinfo").unwrap_or_default();
@@ -282,13 +321,14 @@ const COLUMNS: &str = "| | Kilnsorrel | fast Rust | ordinary Rust | to fast | to
                        |---|---:|---:|---:|---:|---:|";
 
 fn main() {
-    let (mut days, mut some_calls, mut runs, mut only) = (62, 4000, 7, String::new());
+    let (mut days, mut some_calls, mut some_entries) = (62, 4000, 1_000_000);
+    let (mut runs, mut only) = (7, String::new());
     for word in std::env::args().skip(1) {
         match word.parse() {
             Ok(n) if n > 0 => runs = n,
-            _ if word == "--quick" => (days, some_calls) = (6, 500),
-            _ if ["--odd", "--forms", "--reports"].contains(&&word[..]) => only = word,
-            _ => panic!("bench [--quick] [--odd | --forms | --reports] [RUNS]"),
+            _ if word == "--quick" => (days, some_calls, some_entries) = (6, 500, 50_000),
+            _ if ["--odd", "--forms", "--pages", "--reports"].contains(&&word[..]) => only = word,
+            _ => panic!("bench [--quick] [--odd | --forms | --pages | --reports] [RUNS]"),
         }
     }
     let rng = &mut Rng::new(1);
@@ -304,9 +344,13 @@ fn main() {
         return forms(&world, file, runs);
     }
     println!("{COLUMNS}");
+    if only == "--pages" {
+        return pages(rng, some_entries, runs);
+    }
     if only == "--odd" {
         return odd_loads(rng, &world, file, runs);
     }
     let table = loads(rng, &world, file, runs);
     calls(&world, &table, some_calls, runs);
+    pages(rng, some_entries, runs);
 }

@@ -1,4 +1,5 @@
-//! Two loaders in Rust, written apart from the library and from each other.
+//! Two loaders in Rust, written apart from the library and from each other; and the activity page
+//! twice, in `page` for its speed and in `plain_page` for its plain words.
 //!
 //! The fast one (`feed`, `finish`, `estimates`, `write`) is the speed to meet: `direct` takes well
 //! formed rows by wide loads and no search, `rows` decides on all others, `registry` is tested and
@@ -10,12 +11,15 @@
 pub mod calendar;
 mod direct;
 mod loader;
+mod page;
 pub mod plain;
+pub mod plain_page;
 pub mod registry;
 mod rows;
 mod writer;
 
 pub use loader::{feed, feed_ordinary, finish, fresh, State};
+pub use page::page;
 pub use writer::{estimates, write, MAX_RECORD};
 
 pub use crate::header::{CELL_WORDS, RECORD_BYTES};

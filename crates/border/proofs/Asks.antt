@@ -3,7 +3,7 @@
 use mathlib.Core.Path.{refl}
 use base.Logic.{emp, id⊢}
 use Rattle.calls.specs.RealCall.{AsksNothing}
-use Rattle.border.specs.Contract.{fresh_contract, feed_contract, feed_entries_contract, finish_contract, finish_entries_contract, estimates_contract, write_contract}
+use Rattle.border.specs.Contract.{fresh_contract, feed_contract, feed_entries_contract, finish_contract, finish_entries_contract, estimates_contract, write_contract, page_contract}
 use Rattle.border.specs.contracts.fresh as freshes
 use Rattle.border.specs.contracts.feed as feeds
 use Rattle.border.specs.contracts.feed_entries as feeds-entries
@@ -11,6 +11,7 @@ use Rattle.border.specs.contracts.finish as finishes
 use Rattle.border.specs.contracts.finish_entries as finishes-entries
 use Rattle.border.specs.contracts.estimates as counts
 use Rattle.border.specs.contracts.write as writes
+use Rattle.border.specs.contracts.page as pages
 
 pub fresh_asks : AsksNothing freshes.ended fresh_contract
 fresh_asks = record { outlives = refl; requires = λ κs a w. (tt, id⊢ w.𝓤 (emp w.𝓤)) }
@@ -32,3 +33,6 @@ estimates_asks = record { outlives = refl; requires = λ κs a w. (tt, id⊢ w.�
 
 pub write_asks : AsksNothing writes.ended write_contract
 write_asks = record { outlives = refl; requires = λ κs a w. (tt, id⊢ w.𝓤 (emp w.𝓤)) }
+
+pub page_asks : AsksNothing pages.ended page_contract
+page_asks = record { outlives = refl; requires = λ κs a w. (tt, id⊢ w.𝓤 (emp w.𝓤)) }

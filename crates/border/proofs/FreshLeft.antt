@@ -14,7 +14,7 @@ use Rattle.report.specs.declared.refusal.Refusal.{Refusal}
 use Rattle.plain.specs.Call.{finish}
 use Rattle.state.specs.declared.State.{State}
 use Rattle.state.specs.Fresh.{fresh_state}
-use Rattle.loader.proofs.Batching.{some-number}
+use Rattle.report.proofs.Refusals.{some-number}
 use Rattle.statewords.specs.Layout.{state_words, words_of}
 use Rattle.border.specs.Border.{number_in, Packs, Crosses, Call}
 

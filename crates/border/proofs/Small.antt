@@ -30,6 +30,8 @@ use Rattle.cells.proofs.Passed.{FoundCell, found-cell}
 use Rattle.writer.specs.Record.{record_limit, cell_text}
 use Rattle.writer.specs.Write.{written_record, fitting, writes, length_of}
 use Rattle.writer.proofs.Records.{record-most}
+use Rattle.page.specs.Page.{pages_in}
+use Rattle.page.proofs.Pages.{room_for_pages}
 use Rattle.plain.specs.Rows.{Rules, rules_of}
 use Rattle.plain.specs.Call.{byte_limit, room_for, Asked, feed, finish, piece_of, Call, refused_by, done_call}
 use Rattle.plain.specs.Promise.{View, overfull, code_number, code_call}
@@ -113,3 +115,8 @@ module _ (reg : Bytes) (table : Words) (m c d : ℕ) (descriptor output : Bytes)
       let few : length out.0 ≤ record_limit = rw (← same) (text-few made.0 made.1) in
       omega arith
   length-small (Err x) e = tt
+
+-- the pages that a call of page answers
+pub pages-small : (answer : Result ℕ Refusal) (es : List Entry) (room : ℕ) → answers answer ≡ pages_in es room → IfOk answer (λ n. n < 2 ^ word_bits)
+pages-small (Ok n) es room h = omega (arith, room_for_pages es room n h)
+pages-small (Err e) es room h = tt

@@ -8,6 +8,7 @@ use Rattle.border.specs.contracts.finish as finishes
 use Rattle.border.specs.contracts.finish_entries as finishes-entries
 use Rattle.border.specs.contracts.estimates as counts
 use Rattle.border.specs.contracts.write as writes
+use Rattle.border.specs.contracts.page as pages
 
 abbrev pub fresh_contract : Contract freshes.ended
 fresh_contract w = freshes.clauses w.𝓛 w.𝓜.mem w.𝓡.run
@@ -29,3 +30,6 @@ estimates_contract w = counts.clauses w.𝓛 w.𝓜.mem w.𝓡.run
 
 abbrev pub write_contract : Contract writes.ended
 write_contract w = writes.clauses w.𝓛 w.𝓜.mem w.𝓡.run
+
+abbrev pub page_contract : Contract pages.ended
+page_contract w = pages.clauses w.𝓛 w.𝓜.mem w.𝓡.run

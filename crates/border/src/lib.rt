@@ -12,14 +12,17 @@
 // length is refused 1. What the calls do is loader's, estimates' and writer's; here is only how it is asked and answered.
 #![tactic(auto)]
 
-ghost use Rattle.std.specs.Prelude.{◌≡◌, ◌^◌, ◌<◌, ℕ, IfOk};
+ghost use Rattle.std.specs.Prelude.{◌≡◌, ◌^◌, ◌<◌, ℕ, IfOk, length};
 ghost use Rattle.report.specs.Outcome.{answers};
 ghost use Rattle.cell.specs.Layout.{word_bits};
 ghost use Rattle.estimates.specs.Estimates.{estimates_of};
-ghost use Rattle.writer.specs.Write.{Fits, writes, length_of, output_with};
+ghost use Rattle.report.specs.Output.{output_with};
+ghost use Rattle.writer.specs.Write.{Fits, writes, length_of};
 ghost use Rattle.plain.specs.Call.{feed as asks_feed, finish as asks_finish};
 ghost use Rattle.loader.specs.Keeps.{Keeps};
-ghost use Rattle.loader.specs.Report.{itself, left, report_in, words_left};
+ghost use Rattle.report.specs.Words.{itself, report_in};
+ghost use Rattle.loader.specs.Report.{left, words_left};
+ghost use Rattle.page.specs.Page.{pages_in, paged};
 ghost use Rattle.border.specs.Border.{Packs, Freshens, Call};
 ghost use Rattle.border.specs.Private.{asked_of};
 
@@ -159,4 +162,12 @@ pub fn write(
         day,
     };
     packed(writer::write(registry, table, at, descriptor, output))
+}
+
+// A report's entries on pages, from place 0 of the output on.
+pub fn page(report: &[u32], output: &mut [u8]) -> u64
+    ensures answer { Packs (pages_in (report_in report.now) (length output.old)) result }
+    ensures bytes { output.new ≡ output_with output.old (paged (report_in report.now) (length output.old)) }
+{
+    packed(page::page::<u32>(report, output))
 }

@@ -13,8 +13,11 @@ use Rattle.report.specs.declared.refusal.Refusal.{Refusal}
 use Rattle.plain.specs.Call.{finish}
 use Rattle.plain.specs.Claim.{finish_done}
 use Rattle.loader.specs.Keeps.{count_in}
-use Rattle.loader.proofs.Batching.{some-number}
-use Rattle.writer.specs.Write.{length_of, output_with}
+use Rattle.report.proofs.Refusals.{some-number}
+use Rattle.report.specs.Output.{output_with}
+use Rattle.writer.specs.Write.{length_of}
+use Rattle.report.specs.declared.Entry.{Entry}
+use Rattle.page.specs.Page.{pages_in, paged}
 
 pub finish-is_done : (n : ℕ) → finish_done finish n ≡ true → n ≡ done
 finish-is_done zero d = refl
@@ -33,6 +36,12 @@ pub output-left : (answer : Result ℕ Refusal) (output : Bytes) (x : Outcome By
     → output_with output x ≡ output
 output-left answer output (passed text) h r = absurd (r (ap number_of h))
 output-left answer output (refused number) h r = refl
+
+-- of a call of page: the pages that it answers are those that it put out, and a refusal leaves the output
+pub unpaged-left : (es : List Entry) (output : Bytes) (room : ℕ) → (x : Outcome ℕ) → x ≡ pages_in es room → ¬ (number_of x ≡ done) → output_with output (paged es room) ≡ output
+unfolding paged
+unpaged-left es output room (passed n) e r = absurd (r refl)
+unpaged-left es output room (refused n) e r = rw (← e) refl
 
 -- a report that stays behind the entries that an answer counts is, behind a refusal's none, as it was
 pub same_report : {A : Type 0} (behind : ℕ → List A → List A) → ((ts : List A) → behind 0 ts ≡ ts) → (answer : Result ℕ Refusal) (written report : List A)

@@ -10,12 +10,13 @@ use Rattle.plain.specs.Rows.{rules_of}
 use Rattle.plain.specs.Call.{fresh}
 use Rattle.plain.specs.Promise.{View, view_from, Promise, Chain}
 use Rattle.plain.proofs.Demand3.{demand3}
-use Rattle.writer.specs.Write.{writes, length_of, output_with}
+use Rattle.report.specs.Output.{output_with}
+use Rattle.writer.specs.Write.{writes, length_of}
 use Rattle.writer.proofs.Done.{Done, write_done}
 use Rattle.writer.specs.Write.{Fits}
 use Rattle.roundtrip.proofs.RoundTrip.{round_trip}
 use Rattle.claims.specs.Library.{Library, Written, Linked}
-use Rattle.claims.specs.Claims.{calls_told, Unchanged, FreshIsFresh, FinishStartsAnew, EachDayByItself, WrittenReadsBack, Claims}
+use Rattle.claims.specs.Claims.{calls_told, Unchanged, FreshIsFresh, FinishStartsAnew, EachDayByItself, WrittenReadsBack, EachEntryOnAPage, RefusedPagesNothing, Claims}
 
 -- what a call of Write that was done promises
 pub record Wrote (k : Written) : Type 0 where
@@ -39,6 +40,8 @@ pub record Keeping (L : Library) : Type 3 where
   pub unchanged : (c : L.Call) → L.Met c → ¬ ((L.told c).number ≡ done) → Unchanged L c
   pub wrote : (k : L.Write) → L.WriteMet k → (L.written k).number ≡ done → Wrote (L.written k)
   pub unwritten : (k : L.Write) → L.WriteMet k → ¬ ((L.written k).number ≡ done) → (L.written k).after ≡ (L.written k).before
+  pub laid : EachEntryOnAPage L
+  pub unpaged : RefusedPagesNothing L
 
 module _ (L : Library) (K : Keeping L) where
   chained : (reg : Bytes) (s : L.State) (t : Words) (cs : List L.Call) → K.Good s → Linked L reg s t cs → Chain (rules_of reg) (K.view s) t (calls_told L cs)
@@ -82,4 +85,6 @@ module _ (L : Library) (K : Keeping L) where
     finish = K.finish;
     each_day_by_itself = each_day_by_itself;
     written_reads_back = written_reads_back;
+    each_entry_on_a_page = K.laid;
+    refused_pages = K.unpaged;
   }

@@ -26,22 +26,28 @@ use Rattle.state.specs.View.{view_of}
 use Rattle.state.proofs.FreshView.{fresh-view}
 use Rattle.loader.specs.Keeps.{made_of}
 use Rattle.loader.specs.Keeps as keeps
-use Rattle.loader.specs.Report.{itself, left, report_in, words_left}
-use Rattle.writer.specs.Write.{Fits, writes as writes_of, length_of, output_with}
+use Rattle.report.specs.Words.{itself, report_in}
+use Rattle.loader.specs.Report.{left, words_left}
+use Rattle.report.specs.Output.{output_with}
+use Rattle.writer.specs.Write.{Fits, writes as writes_of, length_of}
 use Rattle.statewords.specs.Layout.{state_words, state_in, words_of}
 use Rattle.statewords.proofs.FreshWords.{fresh-long, fresh-back}
 use Rattle.border.specs.Border.{number_in, count_in, Packs, Freshens, Crosses, Call}
-use Rattle.border.specs.Contract.{fresh_contract, feed_contract, feed_entries_contract, finish_contract, finish_entries_contract, estimates_contract, write_contract}
+use Rattle.border.specs.Contract.{fresh_contract, feed_contract, feed_entries_contract, finish_contract, finish_entries_contract, estimates_contract, write_contract, page_contract}
 use Rattle.border.specs.contracts.fresh as freshes
 use Rattle.border.specs.contracts.write as writes
+use Rattle.border.specs.contracts.page as pages
+use Rattle.page.specs.Page.{pages_in, paged}
+use Rattle.page.specs.Laid.{Laid}
+use Rattle.page.proofs.Laid.{laid_out}
 use Rattle.calls.specs.RealCall.{RealCall, Met}
-use Rattle.calls.proofs.Told.{three-told}
-use Rattle.claims.specs.Library.{Written}
+use Rattle.calls.proofs.Told.{two-told, three-told}
+use Rattle.claims.specs.Library.{Written, Paged}
 use Rattle.claims.specs.Claims.{Unchanged, FinishStartsAnew}
-use Rattle.claims.specs.Border.{Contracts, FeedOrFinish, fed, fed_entries, finished, finished_entries, registry_in, words_in, words_out, table_in, answer_of, told_of, write_told, met, NothingAsked, on_words}
-use Rattle.border.proofs.Asks.{fresh_asks, feed_asks, feed_entries_asks, finish_asks, finish_entries_asks, estimates_asks, write_asks}
+use Rattle.claims.specs.Border.{Contracts, FeedOrFinish, fed, fed_entries, finished, finished_entries, registry_in, words_in, words_out, table_in, answer_of, told_of, write_told, page_told, met, NothingAsked, on_words}
+use Rattle.border.proofs.Asks.{fresh_asks, feed_asks, feed_entries_asks, finish_asks, finish_entries_asks, estimates_asks, write_asks, page_asks}
 use Rattle.border.proofs.FreshLeft.{finished as finished_left}
-use Rattle.claims.proofs.Answers.{of_refusal, finish-is_done, same_report}
+use Rattle.claims.proofs.Answers.{of_refusal, finish-is_done, unpaged-left, same_report}
 use Rattle.claims.proofs.Chains.{Wrote, Keeping}
 
 abbrev pub border_contracts : Contracts
@@ -54,6 +60,7 @@ border_contracts =
       finish_entries = finish_entries_contract;
       estimates = estimates_contract;
       write = write_contract;
+      page = page_contract;
     }
 
 -- ---- ANSWERS
@@ -206,6 +213,32 @@ module _ (k : RealCall writes.ended) (m : Met writes.ended write_contract k) whe
   unwritten : ¬ (w.number ≡ done) → w.after ≡ w.before
   unwritten r = said.1 ∙ left-alone wanted said.0 r
 
+-- ---- PAGE
+
+module _ (k : RealCall pages.ended) (m : Met pages.ended page_contract k) where
+  abbrev p : Paged
+  p = page_told k
+
+  abbrev room : ℕ
+  room = length p.before
+
+  page_said : Packs (pages_in p.report room) k.result × (p.after ≡ output_with p.before (paged p.report room))
+  page_said = m _ (λ v g. two-told v (Packs (pages_in p.report room) k.result) (p.after ≡ output_with p.before (paged p.report room)))
+
+  page_counted : (x : Outcome ℕ) → Packs x k.result → p.number ≡ done → passed p.count ≡ x
+  page_counted (passed n) q d = ap passed q.low
+  page_counted (refused n) q d = absurd (q.1 (sym q.0.high ∙ d))
+
+  page_refused : (x : Outcome ℕ) → Packs x k.result → ¬ (p.number ≡ done) → ¬ (number_of x ≡ done)
+  page_refused (passed n) q r d = r q.high
+  page_refused (refused n) q r d = q.1 d
+
+  page_laid : p.number ≡ done → Laid p.report p.count p.before p.after
+  page_laid d = laid_out p.report p.count p.before p.after (page_counted (pages_in p.report room) page_said.0 d) page_said.1
+
+  unpaged : ¬ (p.number ≡ done) → p.after ≡ p.before
+  unpaged r = page_said.1 ∙ unpaged-left p.report p.before room (pages_in p.report room) refl (page_refused (pages_in p.report room) page_said.0 r)
+
 nothing_asked : NothingAsked border_contracts
 nothing_asked =
     record {
@@ -216,6 +249,7 @@ nothing_asked =
       finish_entries = finish_entries_asks;
       estimates = estimates_asks;
       write = write_asks;
+      page = page_asks;
     }
 
 pub keeping : Keeping (on_words border_contracts)
@@ -234,4 +268,6 @@ keeping = record {
   unchanged = unchanged;
   wrote = wrote;
   unwritten = unwritten;
+  laid = page_laid;
+  unpaged = unpaged;
 }

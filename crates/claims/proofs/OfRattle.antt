@@ -4,9 +4,10 @@ use mathlib.Core.Path.{◌≡◌, refl, sym, ◌∙◌}
 use mathlib.Core.List.{List}
 use Prim.Native.Nat.{ℕ}
 use base.Logic.{id⊢}
-use borrow.Fn.World
 use denote.RattleType.{RattleType}
 use denote.Builtin.{u32}
+use mir.Syntax.{Dict}
+use lib.ListN.{length}
 use Rattle.std.specs.Prelude.{Result, Ok, Err, OnOk, true}
 use Rattle.report.specs.declared.refusal.Refusal.{Refusal}
 use Rattle.state.specs.declared.State.{State}
@@ -23,24 +24,35 @@ use Rattle.plain.proofs.Refused.{refused_table}
 use Rattle.state.specs.Fresh.{fresh_state}
 use Rattle.state.specs.View.{view_of}
 use Rattle.state.proofs.FreshView.{fresh-view}
-use Rattle.loader.specs.Keeps.{Keeps}
+use Rattle.loader.specs.Keeps.{Keeps, count_in}
 use Rattle.loader.specs.declared.slot.Slot.{Ghosts}
 use Rattle.loader.specs.contracts.slot.EntrySlot.TheImpl as entries
 use Rattle.loader.specs.contracts.slot.U32Slot.TheImpl as words
-use Rattle.writer.specs.Write.{Fits, writes as writes_of, length_of, output_with}
+use Rattle.report.specs.Output.{output_with}
+use Rattle.writer.specs.Write.{Fits, writes as writes_of, length_of}
 use Rattle.writer.specs.Contract.{write_contract}
 use Rattle.writer.specs.contracts.write as writes
-use Rattle.calls.proofs.Told.{three-told}
+use Rattle.report.specs.declared.Entry.{Entry}
+use Rattle.report.specs.declared.listed.Listed.{Ghosts as Listing}
+use Rattle.report.specs.contracts.listed.EntryListed.TheImpl as listed_entries
+use Rattle.report.specs.contracts.listed.U32Listed.TheImpl as listed_words
+use Rattle.page.specs.Page.{pages_in, paged}
+use Rattle.page.specs.Laid.{Laid}
+use Rattle.page.specs.Contract.{page_contract}
+use Rattle.page.specs.contracts.page as pages
+use Rattle.page.proofs.Laid.{laid_out}
+use Rattle.page.proofs.Asks.{page_entries_asks, page_words_asks}
+use Rattle.calls.proofs.Told.{two-told, three-told}
 use Rattle.calls.specs.RealCall.{RealCall, Met}
 use Rattle.claims.specs.Library.{Written}
-use Rattle.claims.specs.Claims.{Unchanged, FinishStartsAnew}
-use Rattle.claims.specs.Rattle.{FeedOrFinish, fed, finished, met, registry_in, state_in, state_out, table_in, table_out, report_in, report_out, told_of, Call, with_entries, with_words, of_each, write_told, rattle, NothingAsked}
-use Rattle.loader.proofs.Batching.{some-number}
+use Rattle.claims.specs.Claims.{Unchanged, FinishStartsAnew, EachEntryOnAPage, RefusedPagesNothing}
+use Rattle.claims.specs.Rattle.{FeedOrFinish, fed, finished, met, registry_in, state_in, state_out, table_in, table_out, report_in, report_out, told_of, Call, with_entries, with_words, of_each, write_told, put, of_entries, of_words, rattle, NothingAsked}
+use Rattle.report.proofs.Refusals.{some-number}
 use Rattle.state.proofs.Asks.{fresh_asks}
 use Rattle.loader.proofs.Asks.{feed_entries_asks, feed_words_asks, finish_entries_asks, finish_words_asks}
 use Rattle.estimates.proofs.Asks.{estimates_asks}
 use Rattle.writer.proofs.Asks.{write_asks}
-use Rattle.claims.proofs.Answers.{finish-is_done, of_refusal, counted, output-left, same_report}
+use Rattle.claims.proofs.Answers.{finish-is_done, of_refusal, counted, output-left, unpaged-left, same_report}
 use Rattle.claims.proofs.Chains.{Wrote, Keeping}
 
 module _ (T : RattleType) (slot : Ghosts T.Denot) where
@@ -125,6 +137,32 @@ module _ (k : RealCall writes.ended) (m : Met writes.ended write_contract k) whe
   unwritten : ¬ (w.number ≡ done) → w.after ≡ w.before
   unwritten r = said.1 ∙ output-left k.result w.before wanted said.0 r
 
+-- ---- PAGE
+
+module _ (T : RattleType) (listed : Listing T.Denot) (i j : Dict) (k : RealCall (pages.ended T listed i j)) (m : Met (pages.ended T listed i j) (page_contract T listed i j) k) where
+  abbrev es : List Entry
+  es = listed.entries k.args.0.now
+
+  abbrev room : ℕ
+  room = length k.args.1.0.now
+
+  put_said : (answers k.result ≡ pages_in es room) × (k.exit.1.0.now ≡ output_with k.args.1.0.now (paged es room))
+  put_said = m _ (λ v g. two-told v (answers k.result ≡ pages_in es room) (k.exit.1.0.now ≡ output_with k.args.1.0.now (paged es room)))
+
+  put_laid : number_of (answers k.result) ≡ done → Laid es (count_in k.result) k.args.1.0.now k.exit.1.0.now
+  put_laid d = laid_out es (count_in k.result) k.args.1.0.now k.exit.1.0.now (counted k.result (pages_in es room) put_said.0 d) put_said.1
+
+  put_none : ¬ (number_of (answers k.result) ≡ done) → k.exit.1.0.now ≡ k.args.1.0.now
+  put_none r = put_said.1 ∙ unpaged-left es k.args.1.0.now room (answers k.result) put_said.0 r
+
+laid : EachEntryOnAPage rattle
+laid (of_entries (put i j k)) m d = put_laid entry.the_row listed_entries.ghosts i j k m d
+laid (of_words (put i j k)) m d = put_laid u32 listed_words.ghosts i j k m d
+
+unpaged : RefusedPagesNothing rattle
+unpaged (of_entries (put i j k)) m r = put_none entry.the_row listed_entries.ghosts i j k m r
+unpaged (of_words (put i j k)) m r = put_none u32 listed_words.ghosts i j k m r
+
 of_promise : (c : Call) → of_each met c → Promise (rules_of (of_each registry_in c)) (view_of (of_each state_in c)) (of_each table_in c) (of_each told_of c)
 of_promise (with_entries c) m = promise entry.the_row entries.ghosts c m
 of_promise (with_words c) m = promise u32 words.ghosts c m
@@ -147,6 +185,8 @@ nothing_asked =
       finish_words = finish_words_asks;
       estimates = estimates_asks;
       write = write_asks;
+      page_entries = page_entries_asks;
+      page_words = page_words_asks;
     }
 
 pub keeping : Keeping rattle
@@ -165,4 +205,6 @@ keeping = record {
   unchanged = unchanged;
   wrote = wrote;
   unwritten = unwritten;
+  laid = laid;
+  unpaged = unpaged;
 }

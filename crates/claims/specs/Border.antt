@@ -8,7 +8,7 @@ use Rattle.plain.specs.Call.{Asked, feed, finish}
 use Rattle.plain.specs.Promise.{Made}
 use Rattle.state.specs.Fresh.{fresh_state}
 use Rattle.state.specs.View.{view_of}
-use Rattle.loader.specs.Report.{report_in}
+use Rattle.report.specs.Words.{report_in}
 use Rattle.statewords.specs.Layout.{state_in, words_of}
 use Rattle.border.specs.Border.{number_in, count_in}
 use Rattle.border.specs.contracts.fresh as freshes
@@ -18,8 +18,9 @@ use Rattle.border.specs.contracts.finish as finishes
 use Rattle.border.specs.contracts.finish_entries as finishes-entries
 use Rattle.border.specs.contracts.estimates as counts
 use Rattle.border.specs.contracts.write as writes
+use Rattle.border.specs.contracts.page as pages
 use Rattle.calls.specs.RealCall.{Contract, RealCall, Met, AsksNothing}
-use Rattle.claims.specs.Library.{Library, Written}
+use Rattle.claims.specs.Library.{Library, Written, Paged}
 
 -- the calls
 pub record Contracts : Type 2 where
@@ -30,6 +31,7 @@ pub record Contracts : Type 2 where
   pub finish_entries : Contract finishes-entries.ended
   pub estimates : Contract counts.ended
   pub write : Contract writes.ended
+  pub page : Contract pages.ended
 
 -- with a report of words, or of entries
 pub data FeedOrFinish : Type 0 where
@@ -127,6 +129,16 @@ write_told k =
       after = k.exit.1.1.1.1.1.1.0.now;
     }
 
+abbrev pub page_told : RealCall pages.ended → Paged
+page_told k =
+    record {
+      report = report_in k.args.0.now;
+      before = k.args.1.0.now;
+      number = number_in k.result;
+      count = count_in k.result;
+      after = k.exit.1.0.now;
+    }
+
 module _ (C : Contracts) where
   abbrev pub met : FeedOrFinish → Type 2
   met (fed k) = Met feeds.ended C.feed k
@@ -143,6 +155,7 @@ module _ (C : Contracts) where
     pub finish_entries : AsksNothing finishes-entries.ended C.finish_entries
     pub estimates : AsksNothing counts.ended C.estimates
     pub write : AsksNothing writes.ended C.write
+    pub page : AsksNothing pages.ended C.page
 
   abbrev pub on_words : Library
   on_words =
@@ -166,4 +179,7 @@ module _ (C : Contracts) where
         Write = RealCall writes.ended;
         WriteMet = Met writes.ended C.write;
         written = write_told;
+        Page = RealCall pages.ended;
+        PageMet = Met pages.ended C.page;
+        paged = page_told;
       }

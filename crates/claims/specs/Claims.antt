@@ -15,6 +15,7 @@ use Rattle.plain.specs.Rows.{rules_of}
 use Rattle.plain.specs.Promise.{Made}
 use Rattle.plain.specs.Claim.{Demand3, finish_done, OnlyFinish, taken_by}
 use Rattle.roundtrip.specs.RoundTrip.{Cleared, loading_flags, ReadsBack}
+use Rattle.page.specs.Laid.{Laid}
 use Rattle.claims.specs.Library.{Library, Written, Linked}
 
 -- the calls in the plain loader's terms
@@ -61,6 +62,15 @@ WrittenReadsBack L =
     → OnlyFinish (calls_told L cs) → taken_by (calls_told L cs) ≡ take (L.written k).count (L.written k).after
     → ReadBack L (L.written k) cleared cs
 
+-- THE PAGES, by page/specs/Laid (document 02, S-2): a call of page that is done has put out each entry on exactly one page, in report order, and nothing else
+-- but headings and spaces; a refused one changes no byte.
+abbrev pub EachEntryOnAPage : Library → Type 2
+EachEntryOnAPage L =
+    (k : L.Page) → L.PageMet k → (L.paged k).number ≡ done → Laid (L.paged k).report (L.paged k).count (L.paged k).before (L.paged k).after
+
+abbrev pub RefusedPagesNothing : Library → Type 2
+RefusedPagesNothing L = (k : L.Page) → L.PageMet k → ¬ ((L.paged k).number ≡ done) → (L.paged k).after ≡ (L.paged k).before
+
 pub record Claims (L : Library) : Type 2 where
   pub nothing_asked : L.NothingAsked
   pub refused : RefusedChangesNothing L
@@ -69,3 +79,5 @@ pub record Claims (L : Library) : Type 2 where
   pub finish : FinishStartsAnew L
   pub each_day_by_itself : EachDayByItself L
   pub written_reads_back : WrittenReadsBack L
+  pub each_entry_on_a_page : EachEntryOnAPage L
+  pub refused_pages : RefusedPagesNothing L

@@ -3,6 +3,7 @@
 use Rattle.std.specs.Prelude.{◌≡◌, List, [], ◌∷◌, ℕ}
 use Rattle.text.specs.Byte.{Bytes}
 use Rattle.cell.specs.Layout.{Words}
+use Rattle.report.specs.declared.Entry.{Entry}
 use Rattle.plain.specs.Promise.{Made}
 
 -- a call of Write as it was made and as it came back; meter, channel and window day are from 0
@@ -18,8 +19,16 @@ pub record Written : Type 0 where
   pub count : ℕ
   pub after : Bytes
 
+-- a call of page as it was made and as it came back
+pub record Paged : Type 0 where
+  pub report : List Entry
+  pub before : Bytes
+  pub number : ℕ
+  pub count : ℕ
+  pub after : Bytes
+
 pub record Library : Type 3 where
-  -- no call asks anything of a caller but its arguments, Estimates and Write included
+  -- no call asks anything of a caller but its arguments, Estimates, Write and page included
   pub NothingAsked : Type 2
   -- what is kept between calls, and the fresh one
   pub State : Type 0
@@ -45,6 +54,10 @@ pub record Library : Type 3 where
   pub Write : Type 0
   pub WriteMet : Write → Type 2
   pub written : Write → Written
+  -- a call of page
+  pub Page : Type 0
+  pub PageMet : Page → Type 2
+  pub paged : Page → Paged
 
 -- A list of calls over one registry: each met its contract, and gets the state as the one before it left it, and the table.
 unfoldable pub Linked : (L : Library) → Bytes → L.State → Words → List L.Call → Type 2

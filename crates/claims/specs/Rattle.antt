@@ -26,8 +26,13 @@ use Rattle.estimates.specs.Contract.{estimates_contract}
 use Rattle.estimates.specs.contracts.estimates as counts
 use Rattle.writer.specs.Contract.{write_contract}
 use Rattle.writer.specs.contracts.write as writes
+use Rattle.report.specs.declared.listed.Listed.{Ghosts as Listing}
+use Rattle.report.specs.contracts.listed.EntryListed.TheImpl as listed_entries
+use Rattle.report.specs.contracts.listed.U32Listed.TheImpl as listed_words
+use Rattle.page.specs.Contract.{page_contract, page_bounds}
+use Rattle.page.specs.contracts.page as pages
 use Rattle.calls.specs.RealCall.{RealCall, Met, AsksOnly, AsksNothing}
-use Rattle.claims.specs.Library.{Library, Written}
+use Rattle.claims.specs.Library.{Library, Written, Paged}
 
 -- with a report of what T is, by what it says of itself as a slot; where its functions are found is no matter of the contract
 module _ (T : RattleType) (slot : Ghosts T.Denot) where
@@ -97,6 +102,32 @@ write_told k =
       after = k.exit.1.1.1.1.0.now;
     }
 
+-- a call of page, of a report of what T is
+module _ (T : RattleType) (listed : Listing T.Denot) where
+  pub data PageOf : Type 0 where
+    put : (listed_found drop_found : Dict) → RealCall (pages.ended T listed listed_found drop_found) → PageOf
+
+  abbrev pub page_met : PageOf → Type 2
+  page_met (put i j k) = Met (pages.ended T listed i j) (page_contract T listed i j) k
+
+  abbrev pub page_told : PageOf → Paged
+  page_told (put i j k) =
+      record {
+        report = listed.entries k.args.0.now;
+        before = k.args.1.0.now;
+        number = number_of (answers k.result);
+        count = count_in k.result;
+        after = k.exit.1.0.now;
+      }
+
+pub data Page : Type 0 where
+  of_entries : PageOf entry.the_row listed_entries.ghosts → Page
+  of_words : PageOf u32 listed_words.ghosts → Page
+
+abbrev pub page_of_each {n} : {A : Type n} → ((T : RattleType) (listed : Listing T.Denot) → PageOf T listed → A) → Page → A
+page_of_each f (of_entries k) = f entry.the_row listed_entries.ghosts k
+page_of_each f (of_words k) = f u32 listed_words.ghosts k
+
 -- whoever has the arguments can make each call
 pub record NothingAsked : Type 2 where
   pub fresh : AsksNothing freshes.ended fresh_contract
@@ -106,6 +137,8 @@ pub record NothingAsked : Type 2 where
   pub finish_words : (i j : Dict) → AsksOnly (finishes.ended u32 words.ghosts i j) (finish_contract u32 words.ghosts i j) finish_bounds
   pub estimates : AsksNothing counts.ended estimates_contract
   pub write : AsksNothing writes.ended write_contract
+  pub page_entries : (i j : Dict) → AsksOnly (pages.ended entry.the_row listed_entries.ghosts i j) (page_contract entry.the_row listed_entries.ghosts i j) page_bounds
+  pub page_words : (i j : Dict) → AsksOnly (pages.ended u32 listed_words.ghosts i j) (page_contract u32 listed_words.ghosts i j) page_bounds
 
 abbrev pub rattle : Library
 rattle =
@@ -129,4 +162,7 @@ rattle =
       Write = RealCall writes.ended;
       WriteMet = Met writes.ended write_contract;
       written = write_told;
+      Page = Page;
+      PageMet = page_of_each page_met;
+      paged = page_of_each page_told;
     }

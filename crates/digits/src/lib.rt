@@ -9,7 +9,8 @@
 // In a clause a text is its bytes so far.
 //
 // For whoever changes it: a number's digits are `digits_of` of text/specs/Number.antt; `put_digits` is the only function that finds
-// them, but for crate `direct`, which compares the two digits of a detail row's code byte by byte, for speed.
+// them, but for two that are quicker at what they do: crate `direct` compares the two digits of a detail row's code byte by byte, and crate `pagetext` fills
+// a column two digits at a time.
 #![tactic(auto)]
 
 ghost use Rattle.std.specs.Prelude.{◌≡◌, [], ◌++◌, ◌+◌, ◌≤◌, length};

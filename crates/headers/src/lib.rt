@@ -6,8 +6,8 @@
 //
 // Each reads field by field; crate `usual` has a quick way through rows as nearly every file has them, with the same promises.
 //
-// For whoever changes it: a row's rule is its definition in specs/ (One.antt and so on) and nothing else; what stops a day is
-// `time::stops_day`, which the quick reader asks too, a read's stamp is `time::Stamp`, row two's forms are the table in `two`.
+// For whoever changes it: a row's rule is its definition in specs/ (One.antt and so on) and nothing else. What stops a day is
+// `time::stops_day`, which the quick reader asks too. A read's stamp is `time::Stamp`; row two's forms are the table in `two`.
 #![tactic(auto)]
 
 pub mod four;

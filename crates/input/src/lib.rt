@@ -1,7 +1,7 @@
 // What the programs read, from files and from standard input.
 #![tactic(auto)]
 
-ghost use Rattle.std.specs.Prelude.{◌≡◌, ◌<◌, length, take, IfOk, Ok};
+ghost use Rattle.std.specs.Prelude.{◌≡◌, ◌<◌, ◌≤◌, length, take, IfOk, Ok};
 ghost use Rattle.std.specs.Io.{ReadsAtMost};
 ghost use Rattle.std.specs.Io.KnownBytes.{Consumes, IsAtEnd};
 
@@ -45,4 +45,21 @@ pub fn named(rt: &impl Eprint, name: &str, read: io::Result<usize>) -> io::Resul
         eprintln!(rt; "{name} could not be read")?;
     }
     read
+}
+
+// The same, where no more than so many bytes may come; of more a line on standard error says so.
+pub fn at_most(
+    rt: &impl Eprint,
+    name: &str,
+    most: usize,
+    read: io::Result<usize>,
+) -> io::Result<usize>
+    ensures { IfOk result (λ n. (read ≡ Ok n) × (n ≤ most)) }
+{
+    let n = named(rt, name, read)?;
+    if most < n {
+        eprintln!(rt; "{name} is longer than {most} bytes")?;
+        return Err(io::Error::from(io::ErrorKind::FileTooLarge));
+    }
+    Ok(n)
 }

@@ -8,6 +8,7 @@ use Rattle.kilnsorrel.specs.contracts.kilnsorrel_finish
 use Rattle.kilnsorrel.specs.contracts.kilnsorrel_finish_entries
 use Rattle.kilnsorrel.specs.contracts.kilnsorrel_estimates
 use Rattle.kilnsorrel.specs.contracts.kilnsorrel_write
+use Rattle.kilnsorrel.specs.contracts.kilnsorrel_page
 
 abbrev pub exports : Contracts
 exports =
@@ -19,4 +20,5 @@ exports =
       finish_entries = λ w. kilnsorrel_finish_entries.clauses w.𝓛 w.𝓜.mem w.𝓡.run;
       estimates = λ w. kilnsorrel_estimates.clauses w.𝓛 w.𝓜.mem w.𝓡.run;
       write = λ w. kilnsorrel_write.clauses w.𝓛 w.𝓜.mem w.𝓡.run;
+      page = λ w. kilnsorrel_page.clauses w.𝓛 w.𝓜.mem w.𝓡.run;
     }

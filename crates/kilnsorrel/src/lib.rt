@@ -11,11 +11,14 @@
 // For whoever changes it: each call is that of crate border, under a name for C; proofs/Exports.antt says that its contract is the very one.
 #![tactic(auto)]
 
-ghost use Rattle.std.specs.Prelude.{◌≡◌};
+ghost use Rattle.std.specs.Prelude.{◌≡◌, length};
 ghost use Rattle.estimates.specs.Estimates.{estimates_of};
-ghost use Rattle.writer.specs.Write.{Fits, writes, length_of, output_with};
+ghost use Rattle.report.specs.Output.{output_with};
+ghost use Rattle.writer.specs.Write.{Fits, writes, length_of};
 ghost use Rattle.plain.specs.Call.{feed as asks_feed, finish as asks_finish};
-ghost use Rattle.loader.specs.Report.{itself, left, report_in, words_left};
+ghost use Rattle.report.specs.Words.{itself, report_in};
+ghost use Rattle.loader.specs.Report.{left, words_left};
+ghost use Rattle.page.specs.Page.{pages_in, paged};
 ghost use Rattle.border.specs.Border.{Packs, Freshens, Call};
 
 use report::Entry;
@@ -105,4 +108,12 @@ pub extern "C" fn kilnsorrel_write(
     ensures words { Fits table.now }
 {
     border::write(registry, table, meter, channel, day, descriptor, output)
+}
+
+#[unsafe(no_mangle)]
+pub extern "C" fn kilnsorrel_page(report: &[u32], output: &mut [u8]) -> u64
+    ensures answer { Packs (pages_in (report_in report.now) (length output.old)) result }
+    ensures bytes { output.new ≡ output_with output.old (paged (report_in report.now) (length output.old)) }
+{
+    border::page(report, output)
 }

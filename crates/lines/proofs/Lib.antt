@@ -4,3 +4,4 @@ pub mod Begin
 pub mod Ended
 pub mod Ends
 pub mod Keeping
+pub mod Text

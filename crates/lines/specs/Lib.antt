@@ -3,3 +3,4 @@ pub mod Line
 pub mod End
 pub mod Row
 pub mod Answer
+pub mod Text

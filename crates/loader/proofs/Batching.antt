@@ -22,7 +22,6 @@ use Rattle.cell.specs.Layout.{Words}
 use Rattle.report.specs.Refusal.{done, refusal_number}
 use Rattle.report.specs.declared.Entry.{Entry}
 use Rattle.report.specs.declared.refusal.Refusal.{Refusal}
-use Rattle.report.specs.declared.refusal.Refusal.TheVariants.{BadState, BadRegistry, ShortTable, ShortReport, TooManyBytes, NoCell, EmptyCell, UnsoundCell, BadDescriptor, ShortOutput}
 use Rattle.plain.specs.Rows.{rules_of}
 use Rattle.plain.specs.Table.{load_all}
 use Rattle.plain.specs.Loader.{Scan, scan_to, scan_events, end_events, entries_of, loads_of}
@@ -42,22 +41,10 @@ use Rattle.batches.specs.Batch.{Last}
 use Rattle.loader.specs.Keeps.{Leaves, Keeps}
 use Rattle.loader.specs.Report.{pasted}
 use Rattle.loader.proofs.Reports.{paste-behind, paste-front}
+use Rattle.report.proofs.Refusals.{some-number}
 
 between-whole : (bs : Bytes) (n : ℕ) → n ≡ length bs → between 0 n bs ≡ bs
 between-whole bs n e = take_all (n - 0) (drop 0 bs) (omega arith)
-
--- no refusal is the number of a call that is done
-pub some-number : (r : Refusal) → ¬ (refusal_number r ≡ done)
-some-number BadState e = omega (arith, e)
-some-number BadRegistry e = omega (arith, e)
-some-number ShortTable e = omega (arith, e)
-some-number ShortReport e = omega (arith, e)
-some-number TooManyBytes e = omega (arith, e)
-some-number NoCell e = omega (arith, e)
-some-number EmptyCell e = omega (arith, e)
-some-number UnsoundCell e = omega (arith, e)
-some-number BadDescriptor e = omega (arith, e)
-some-number ShortOutput e = omega (arith, e)
 
 -- ---- THE NUMBER says what the call did
 

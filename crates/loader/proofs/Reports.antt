@@ -15,8 +15,9 @@ use borrow.Rule.Slice.PartMut.{put_mid}
 use Rattle.report.specs.Words.{per_entry, entry_at, first_entries}
 use Rattle.report.specs.declared.Entry.{Entry}
 use Rattle.cell.specs.Layout.{Words}
-use Rattle.pieces.proofs.Batches.{entries-count, entries-take}
-use Rattle.loader.specs.Report.{places_in, report_in, words_left, pasted}
+use Rattle.report.proofs.Entries.{entries-count, entries-take}
+use Rattle.report.specs.Words.{places_in, report_in}
+use Rattle.loader.specs.Report.{words_left, pasted}
 
 -- ---- OF ENTRIES
 

@@ -1,7 +1,8 @@
 // What a report is made of: entries, or words, five an entry, for programs and for callers in other languages.
 ghost use Rattle.std.specs.Prelude.{◌≡◌, ℕ, List, ◌+◌, ◌≤◌, length};
 ghost use Rattle.report.specs.declared.Entry.{Entry as Entered};
-ghost use Rattle.loader.specs.Report.{pasted, itself, left, report_in, words_left};
+ghost use Rattle.report.specs.Words.{itself, report_in};
+ghost use Rattle.loader.specs.Report.{pasted, left, words_left};
 
 use pieces::batch::Batch;
 use report::Entry;

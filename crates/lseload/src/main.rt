@@ -8,7 +8,7 @@
 #![tactic(auto)]
 
 use cell::Cell;
-use input::{named, read_file, read_full};
+use input::{at_most, named, read_file, read_full};
 use loader::{feed, finish};
 use print::{Stop, columns, ended, entries};
 use report::words::PER_ENTRY;
@@ -55,10 +55,7 @@ fn load(rt: &(impl Input + Print + Eprint), registry: &[u8]) -> Result<(), Stop>
 fn main(rt: HostRuntime) -> io::Result<()> {
     columns(&rt)?;
     let mut registry = [0; REGISTRY_SIZE + 1];
-    let n = named(&rt, REGISTRY, read_file(&rt, REGISTRY, &mut registry))?;
-    if REGISTRY_SIZE < n {
-        eprintln!(rt; "{REGISTRY} is longer than {REGISTRY_SIZE} bytes")?;
-        return Err(io::Error::from(io::ErrorKind::FileTooLarge));
-    }
+    let read = read_file(&rt, REGISTRY, &mut registry);
+    let n = at_most(&rt, REGISTRY, REGISTRY_SIZE, read)?;
     ended(&rt, load(&rt, &registry[..n]))
 }

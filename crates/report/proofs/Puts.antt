@@ -1,8 +1,8 @@
 -- An entry put as five words behind those that are there.
 -- Assumes nothing.
-use mathlib.Core.Path.{◌≡◌, refl}
+use mathlib.Core.Path.{◌≡◌}
 use mathlib.Core.List.{List, [], ◌∷◌, ◌++◌}
-use Prim.Native.Nat.{ℕ, zero, suc, ◌+◌, ◌*◌, ◌<◌}
+use Prim.Native.Nat.{ℕ, ◌+◌, ◌*◌, ◌<◌}
 use native.Mathlib.Omega.{arith}
 use native.Mathlib.Numerals.{add-one}
 use lib.ListN.{length, get_or}
@@ -11,20 +11,7 @@ use borrow.Rule.Slice.PartMut.{put_mid}
 use Rattle.std.proofs.lemmas.List.{places}
 use Rattle.report.specs.declared.Entry.{Entry}
 use Rattle.report.specs.Words.{per_entry, first_entries, words_of}
-
--- the first entries go by the words that they are made of
-entries-agree : (n : ℕ) (v w : List ℕ) → ((i : ℕ) → i < n * per_entry → get_or v i 0 ≡ get_or w i 0) → first_entries n v ≡ first_entries n w
-unfolding first_entries
-entries-agree zero v w h = refl
-entries-agree (suc n) v w h =
-    rw (
-      entries-agree n v w (λ i p. h i (omega arith)),
-      h (n * per_entry) (omega arith),
-      h (n * per_entry + 1) (omega arith),
-      h (n * per_entry + 2) (omega arith),
-      h (n * per_entry + 3) (omega arith),
-      h (n * per_entry + 4) (omega arith),
-    )
+use Rattle.report.proofs.Entries.{entries-agree}
 
 module _ (w ws : List ℕ) (n k : ℕ) (e : Entry) (fits : n * per_entry + 4 < length w) (whole : k ≡ per_entry) (put : ws ≡ words_of e) where
   abbrev with_entry : List ℕ

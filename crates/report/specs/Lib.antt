@@ -3,3 +3,4 @@ pub mod Verdict
 pub mod Refusal
 pub mod Outcome
 pub mod Words
+pub mod Output

@@ -1,8 +1,8 @@
--- What a call returns, by document 01's numbers ("What a call returns").
+-- What a call returns, by document 01's numbers ("What a call returns"); from 11 on by document 02's.
 -- Assumes nothing.
 use Rattle.std.specs.Prelude.{ℕ}
 use Rattle.report.specs.declared.refusal.Refusal.{Refusal}
-use Rattle.report.specs.declared.refusal.Refusal.TheVariants.{BadState, BadRegistry, ShortTable, ShortReport, TooManyBytes, NoCell, EmptyCell, UnsoundCell, BadDescriptor, ShortOutput}
+use Rattle.report.specs.declared.refusal.Refusal.TheVariants.{BadState, BadRegistry, ShortTable, ShortReport, TooManyBytes, NoCell, EmptyCell, UnsoundCell, BadDescriptor, ShortOutput, ShortPages, TooManyPages}
 
 abbrev pub done : ℕ
 done = 0
@@ -47,6 +47,14 @@ bad_descriptor = 9
 abbrev pub short_output : ℕ
 short_output = 10
 
+-- the output is shorter than the pages
+abbrev pub short_pages : ℕ
+short_pages = 11
+
+-- the report takes over 99,999 pages
+abbrev pub too_many_pages : ℕ
+too_many_pages = 12
+
 -- a refusal's number
 abbrev pub refusal_number : Refusal → ℕ
 refusal_number BadState = bad_state
@@ -59,3 +67,5 @@ refusal_number EmptyCell = empty_cell
 refusal_number UnsoundCell = unsound_cell
 refusal_number BadDescriptor = bad_descriptor
 refusal_number ShortOutput = short_output
+refusal_number ShortPages = short_pages
+refusal_number TooManyPages = too_many_pages

@@ -1,6 +1,6 @@
 -- Entries, and entries as words, five each.
 -- Assumes nothing.
-use Rattle.std.specs.Prelude.{List, [], ◌∷◌, ◌++◌, ℕ, zero, suc, ◌+◌, ◌*◌, get_or}
+use Rattle.std.specs.Prelude.{List, [], ◌∷◌, ◌++◌, ℕ, zero, suc, ◌+◌, ◌*◌, ◌/◌, length, get_or}
 use Rattle.report.specs.declared.Entry.{Entry}
 
 -- document 01's entry: first line, verdict, deciding line, meter, day
@@ -22,3 +22,13 @@ entry_at w n =
 unfoldable pub first_entries : ℕ → List ℕ → List Entry
 first_entries zero w = []
 first_entries (suc n) w = first_entries n w ++ (entry_at w n ∷ [])
+
+-- A report of entries is itself the entries; one of words has as many as there is room for.
+abbrev pub itself : List Entry → List Entry
+itself report = report
+
+abbrev pub places_in : List ℕ → ℕ
+places_in w = length w / per_entry
+
+abbrev pub report_in : List ℕ → List Entry
+report_in w = first_entries (places_in w) w

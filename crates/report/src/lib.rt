@@ -3,12 +3,13 @@
 // A report is a lent run of entries, or of words, five an entry (`words`): `put_entry` puts an entry behind those that are there, `entry_at` reads one.
 //
 // For whoever changes it: a new verdict or refusal gets a name in specs/Verdict.antt or specs/Refusal.antt and a variant in `verdict` or `refusal`; nobody
-// else writes their numbers.
+// else writes their numbers, but that crate `pagetext` has what is said of a verdict in the place of its number.
 #![tactic(auto)]
 
 ghost use Rattle.std.specs.Prelude.{◌≡◌, ℕ};
 ghost use Rattle.report.specs.Outcome.{numbered, require as required};
 
+pub mod listed;
 pub mod refusal;
 pub mod verdict;
 pub mod words;

@@ -16,6 +16,8 @@ pub enum Refusal {
     UnsoundCell = 8,
     BadDescriptor = 9,
     ShortOutput = 10,
+    ShortPages = 11,
+    TooManyPages = 12,
 }
 
 impl Numbered for Refusal {

@@ -9,7 +9,7 @@ use Rattle.text.specs.Byte.{Bytes}
 use Rattle.lines.specs.Line.{NoLf, Line, ended_line, kind_of}
 use Rattle.lines.specs.declared.line.Kind.{Kind}
 use Rattle.lines.specs.declared.line.Kind.TheVariants.{Empty, Opener, Detail, Other}
-use Rattle.rowtext.specs.Text.{rows as text_of}
+use Rattle.lines.specs.Text.{rows as text_of}
 use Rattle.plain.specs.Rows.{Record, Rows, Row, refused_with, goes_on, complete, Rules, header_rows, rules_of}
 use Rattle.plain.specs.Record.{rows_from}
 use Rattle.plain.specs.Loader.{no_unit, takes_rows, waits, loading, close, settle, scan, step_kind, step_line, end_at, file_from, file_events}

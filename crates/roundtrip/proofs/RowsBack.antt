@@ -3,12 +3,12 @@
 use mathlib.Core.Path.{◌≡◌, refl}
 use mathlib.Core.List.{List, [], ◌∷◌, ◌++◌}
 use mathlib.Core.Bool.{Bool, true, false, ◌&&◌, ◌||◌}
-use Prim.Native.Nat.{ℕ, zero, suc, ◌+◌, ◌*◌, ◌/◌, ◌^◌, ◌≤◌, ◌<◌}
+use Prim.Native.Nat.{ℕ, zero, suc, ◌/◌, ◌^◌, ◌≤◌, ◌<◌}
 use native.Mathlib.Omega.{arith}
 use lib.Dec.{eqb, leb}
 use lib.ListN.{length}
 use lib.Seq.{take_at, drop_at}
-use borrow.Author.Tests.{eq-eqb, eqb-true, leb-true, lt-ltb}
+use borrow.Author.Tests.{eqb-true, leb-true}
 use Rattle.calendar.specs.Date.{is_date}
 use Rattle.calendar.specs.Clock.{is_clock}
 use Rattle.calendar.proofs.Dates.{month_in}

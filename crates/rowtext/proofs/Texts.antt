@@ -18,7 +18,8 @@ use Rattle.headers.specs.declared.time.Stamp.{Stamp}
 use Rattle.details.specs.Value.{point, whole_digits, part_digits, per_kwh}
 use Rattle.details.specs.Detail.{detail_code}
 use Rattle.details.specs.declared.detail.Interval.{Interval}
-use Rattle.rowtext.specs.Text.{row, with_commas, time_text, stamp_text, channel_text, value_text, status_text, interval_fields, row_fields, line_one, line_three, line_four, line_thirty, line_detail}
+use Rattle.lines.specs.Text.{row}
+use Rattle.rowtext.specs.Text.{with_commas, time_text, stamp_text, channel_text, value_text, status_text, interval_fields, row_fields, line_one, line_three, line_four, line_thirty, line_detail}
 use Rattle.digits.specs.Decimal.{trimmed, decimal}
 use Rattle.rowtext.specs.Value.{whole_end, value_end}
 use Rattle.rowtext.proofs.Lengths.{channel-length, time_length}

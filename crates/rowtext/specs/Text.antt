@@ -5,7 +5,6 @@ use Rattle.text.specs.Byte.{Bytes, ascii}
 use Rattle.text.specs.Field.{comma}
 use Rattle.text.specs.Number.{digits_of}
 use Rattle.digits.specs.Decimal.{trimmed}
-use Rattle.lines.specs.Line.{LF}
 use Rattle.headers.specs.Time.{date_size, clock_size, day_stop}
 use Rattle.headers.specs.Thirty.{sender_name, rep_name}
 use Rattle.headers.specs.declared.time.Stamp.{Stamp}
@@ -18,14 +17,6 @@ unfoldable pub with_commas : List Bytes → Bytes
 with_commas [] = []
 with_commas (f ∷ []) = f
 with_commas (f ∷ (g ∷ fs)) = f ++ comma ∷ with_commas (g ∷ fs)
-
--- a line with its LF, and lines each with its own
-abbrev pub row : Bytes → Bytes
-row line = line ++ LF ∷ []
-
-unfoldable pub rows : List Bytes → Bytes
-rows [] = []
-rows (line ∷ lines) = row line ++ rows lines
 
 -- ---- fields
 

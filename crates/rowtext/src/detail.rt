@@ -2,7 +2,8 @@
 ghost use Rattle.std.specs.Prelude.{◌≡◌, ◌∷◌, ◌++◌, ◌+◌, ◌<◌, ◌≤◌, length};
 ghost use Rattle.std.specs.List.{All};
 ghost use Rattle.text.specs.Field.{comma};
-ghost use Rattle.rowtext.specs.Text.{row, with_commas, value_text, interval_fields, line_detail};
+ghost use Rattle.lines.specs.Text.{row};
+ghost use Rattle.rowtext.specs.Text.{with_commas, value_text, interval_fields, line_detail};
 ghost use Rattle.rowtext.specs.Value.{value_end};
 
 use details::detail::{Interval, Row};

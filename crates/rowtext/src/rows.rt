@@ -3,7 +3,8 @@
 
 ghost use Rattle.std.specs.Prelude.{◌≡◌, ◌∷◌, ◌++◌, ◌+◌, ◌≤◌, length};
 ghost use Rattle.text.specs.Field.{comma};
-ghost use Rattle.rowtext.specs.Text.{row, time_text, stamp_text, channel_text, line_one, line_two, line_three, line_four, line_thirty};
+ghost use Rattle.lines.specs.Text.{row};
+ghost use Rattle.rowtext.specs.Text.{time_text, stamp_text, channel_text, line_one, line_two, line_three, line_four, line_thirty};
 
 use calendar::{CLOCK_SIZE, DATE_SIZE};
 use digits::Text;

@@ -12,7 +12,8 @@ use Rattle.report.specs.Refusal.{short_output}
 use Rattle.report.proofs.Passing.{bind_passed, then_passed}
 use Rattle.cell.specs.Layout.{Words}
 use Rattle.cells.specs.Sound.{sound_cell}
-use Rattle.writer.specs.Write.{written_record, fitting, writes, length_of, output_with}
+use Rattle.report.specs.Output.{output_with}
+use Rattle.writer.specs.Write.{written_record, fitting, writes, length_of}
 
 module _ (reg : Bytes) (table : Words) (m c d : ℕ) (descriptor output : Bytes) where
   pub record Done (last : Bytes) (n : ℕ) : Type 0 where

@@ -19,7 +19,9 @@ use Rattle.details.specs.declared.detail.Interval.{Interval}
 use Rattle.cell.specs.Layout.{Words, width, count_at, values_at, max_intervals}
 use Rattle.cell.specs.Read.{interval_in, stamp_in}
 use Rattle.reads.specs.Sound.{max_value, is_value, values_of}
-use Rattle.rowtext.specs.Text.{row, rows, line_one, line_two, line_three, line_four, line_thirty, line_detail}
+use Rattle.lines.specs.Text.{row, rows}
+use Rattle.lines.proofs.Text.{rows_more}
+use Rattle.rowtext.specs.Text.{line_one, line_two, line_three, line_four, line_thirty, line_detail}
 use Rattle.rowtext.specs.Value.{value_end}
 use Rattle.rowtext.proofs.Lengths.{one-length, three-length, four-length, thirty-length, detail_length}
 use Rattle.writer.specs.Record.{row_of, detail_line, detail_lines, record_lines, record_text, record_limit}
@@ -27,20 +29,11 @@ use Rattle.std.specs.List.{All}
 
 -- ---- DETAIL ROWS
 
-rows_append : (xs ys : List Bytes) → rows (xs ++ ys) ≡ rows xs ++ rows ys
-unfolding rows
-rows_append [] ys = refl
-rows_append (x ∷ xs) ys = ap (λ (s : Bytes). row x ++ s) (rows_append xs ys) ∙ sym (append_assoc (row x) (rows xs) (rows ys))
-
-rows-one : (x : Bytes) → rows (x ∷ []) ≡ row x
-unfolding rows
-rows-one x = append-nil (row x)
-
 details-next : (k : ℕ) (w : Words) → rows (detail_lines (k + 1) w) ≡ rows (detail_lines k w) ++ row (detail_line w k)
 unfolding detail_lines
 details-next k w =
     ap (λ (n : ℕ). rows (detail_lines n w)) (add-one k)
-    ∙ rows_append (detail_lines k w) (detail_line w k ∷ []) ∙ ap (λ (s : Bytes). rows (detail_lines k w) ++ s) (rows-one (detail_line w k))
+    ∙ rows_more (detail_lines k w) (detail_line w k)
 
 pub details-size : (k : ℕ) (w : Words) → length (rows (detail_lines (k + 1) w)) ≡ length (rows (detail_lines k w)) + length (row (detail_line w k))
 details-size k w = ap length (details-next k w) ∙ length-append (rows (detail_lines k w)) (row (detail_line w k))

@@ -10,7 +10,8 @@ use Rattle.registry.specs.Registry.{window_is}
 use Rattle.registry.specs.Index.{meter_at}
 use Rattle.cell.specs.Layout.{Words, count_at}
 use Rattle.cell.specs.Read.{interval_in, stamp_in}
-use Rattle.rowtext.specs.Text.{rows, line_one, line_two, line_three, line_four, line_thirty, line_detail}
+use Rattle.lines.specs.Text.{rows}
+use Rattle.rowtext.specs.Text.{line_one, line_two, line_three, line_four, line_thirty, line_detail}
 
 -- the intervals of row k, from 0, of a cell, and the row
 abbrev pub row_of : Words → ℕ → List Interval

@@ -1,10 +1,10 @@
 -- The call Write. Document 01, "Calls": it puts a sound cell out from place 0 as a record, returns its length and changes no later byte.
 -- "What a call returns": 2, 3, 6 to 10, tested in this order; a refusal changes no byte.
 -- Assumes nothing.
-use Rattle.std.specs.Prelude.{◌++◌, not, ℕ, ◌^◌, ◌<◌, ltb, length, drop, get_or}
+use Rattle.std.specs.Prelude.{not, ℕ, ◌^◌, ◌<◌, ltb, length, get_or}
 use Rattle.text.specs.Byte.{Bytes}
 use Rattle.text.specs.Identifier.{is_descriptor}
-use Rattle.report.specs.Outcome.{Outcome, passed, refused, require, ◌>>=◌, ◌>>◌}
+use Rattle.report.specs.Outcome.{Outcome, passed, require, ◌>>=◌, ◌>>◌}
 use Rattle.cell.specs.Layout.{Words, word_bits}
 use Rattle.report.specs.Refusal.{bad_descriptor, short_output}
 use Rattle.cells.specs.Sound.{sound_cell}
@@ -29,11 +29,6 @@ abbrev pub length_of : Outcome Bytes → Outcome ℕ
 length_of found = do
   text ← found
   passed (length text)
-
--- the output after the call
-abbrev pub output_with : Bytes → Outcome Bytes → Bytes
-output_with output (passed text) = text ++ drop (length text) output
-output_with output (refused number) = output
 
 -- what the call does with its output: the record, or the refusal
 unfoldable pub writes : Bytes → Words → ℕ → ℕ → ℕ → Bytes → Bytes → Outcome Bytes

@@ -15,10 +15,11 @@ ghost use Rattle.details.specs.Detail.{per_row};
 ghost use Rattle.cell.specs.Layout.{count_at, max_intervals};
 ghost use Rattle.reads.specs.Sound.{is_value, values_of};
 ghost use Rattle.text.specs.Byte.{every};
-ghost use Rattle.rowtext.specs.Text.{rows};
+ghost use Rattle.lines.specs.Text.{rows};
 ghost use Rattle.writer.specs.Record.{row_of, detail_lines, record_text, cell_text};
 ghost use Rattle.writer.specs.Private.{Writable};
-ghost use Rattle.writer.specs.Write.{Fits, fitting, writes, length_of, output_with};
+ghost use Rattle.report.specs.Output.{output_with};
+ghost use Rattle.writer.specs.Write.{Fits, fitting, writes, length_of};
 
 use calendar::date_of;
 use cell::{Cell, Words, interval_in, stamp_in};

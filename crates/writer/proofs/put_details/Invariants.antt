@@ -1,6 +1,6 @@
 -- What the loop of `writer::put_details` keeps.
 use Rattle.std.proofs.Common.{◌≡◌, ◌++◌}
-use Rattle.rowtext.specs.Text.{rows}
+use Rattle.lines.specs.Text.{rows}
 use Rattle.writer.specs.Record.{detail_lines}
 use Rattle.writer.proofs.put_details.Given as goal
 

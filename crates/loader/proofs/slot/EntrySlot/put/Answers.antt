@@ -1,7 +1,7 @@
 -- `loader::slot::EntrySlot::put` meets its contract.
 -- Assumes nothing.
 use native.Mathlib.Omega.{arith}
-use Rattle.pieces.proofs.Batches.{entries-count}
+use Rattle.report.proofs.Entries.{entries-count}
 use Rattle.loader.proofs.Reports.{none-pasted, one-pasted, pasted-left}
 use Rattle.loader.proofs.slot.EntrySlot.put.Goals as goal
 

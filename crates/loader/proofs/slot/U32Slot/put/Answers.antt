@@ -1,8 +1,8 @@
 -- `loader::slot::U32Slot::put` meets its contract.
 -- Assumes nothing.
 use native.Mathlib.Omega.{arith}
-use Rattle.pieces.proofs.Batches.{entries-count}
-use Rattle.loader.specs.Report.{places_in}
+use Rattle.report.proofs.Entries.{entries-count}
+use Rattle.report.specs.Words.{places_in}
 use Rattle.loader.proofs.Reports.{copied-entries, copied-behind}
 use Rattle.loader.proofs.slot.U32Slot.put.Goals as goal
 

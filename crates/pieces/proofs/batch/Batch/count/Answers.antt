@@ -1,7 +1,7 @@
 -- `pieces::batch::Batch::count` meets its contract.
 -- Assumes nothing.
 use mathlib.Core.Path.{sym}
-use Rattle.pieces.proofs.Batches.{entries-count}
+use Rattle.report.proofs.Entries.{entries-count}
 use Rattle.pieces.proofs.batch.Batch.count.Goals as goal
 
 pub returns : goal.returns

@@ -5,7 +5,7 @@ use native.Mathlib.Omega.{arith}
 use borrow.Author.Rules.{rules}
 use lib.ListN.{length}
 use Rattle.pieces.specs.Ran.{batch_words}
-use Rattle.pieces.proofs.Batches.{entries-count}
+use Rattle.report.proofs.Entries.{entries-count}
 use Rattle.pieces.proofs.batch.Batch.put.Goals as goal
 
 pub put_entry-requires : goal.put_entry-requires

@@ -6,7 +6,7 @@ use borrow.Author.Rules.{rules}
 use lib.ListN.{length}
 use lib.Seq.{length-take-le}
 use Rattle.pieces.specs.Ran.{batch_words}
-use Rattle.pieces.proofs.Batches.{entries-count, entries-take}
+use Rattle.report.proofs.Entries.{entries-count, entries-take}
 use Rattle.pieces.proofs.batch.Batch.words.Goals as goal
 
 pub returns : goal.returns
