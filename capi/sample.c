@@ -246,7 +246,8 @@ static void pages_are_as_told(void) {
     enum { ENTRIES = KILNSORREL_PAGE_ENTRIES + 1, WORDS = ENTRIES * KILNSORREL_ENTRY_WORDS };
     static const uint32_t entries[WORDS] = {1, 12, 29, 2, 20080510};
     static uint8_t pages[2 * KILNSORREL_PAGE_BYTES + 1];
-    const size_t room = KILNSORREL_PAGES(ENTRIES) * KILNSORREL_PAGE_BYTES, line = 81;
+    const size_t room = KILNSORREL_PAGES(ENTRIES) * KILNSORREL_PAGE_BYTES;
+    const size_t line = KILNSORREL_PAGE_BYTES / (2 + KILNSORREL_PAGE_ENTRIES);
     const size_t most = (size_t)KILNSORREL_MOST_PAGES * KILNSORREL_PAGE_ENTRIES * KILNSORREL_ENTRY_WORDS;
     uint32_t *many = (uint32_t *)calloc(most + KILNSORREL_ENTRY_WORDS, sizeof *many);
     EXPECT(many && room == 2 * KILNSORREL_PAGE_BYTES);

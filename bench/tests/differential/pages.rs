@@ -113,10 +113,10 @@ fn most_pages() {
     assert_eq!(kilnsorrel::page(fits, &mut output[..short]), (11, 0));
     assert!(output.iter().all(|b| *b == 0), "a refusal changed the output");
     assert_eq!(kilnsorrel::page(fits, &mut output), (0, MOST_PAGES));
-    let line = plain_page::line_of(&Entry::default());
+    let line = plain_page::line_of(&Entry::default()) + "\n";
     for (p, page) in output.chunks_exact(PAGE_BYTES).enumerate() {
         assert!(page.starts_with(format!("PAGE {:05} ", p + 1).as_bytes()));
-        assert!(page[2 * 81..].chunks_exact(81).all(|l| l.starts_with(line.as_bytes())));
+        assert!(page[2 * line.len()..].chunks_exact(line.len()).all(|l| l == line.as_bytes()));
     }
     assert_eq!(output[room], 0);
 }

@@ -9,7 +9,7 @@
 ghost use Rattle.std.specs.Prelude.{◌≤◌, length, IfOk};
 
 use cell::Cell;
-use input::{at_most, read_file, read_full};
+use input::{REGISTRY_SIZE, at_most, read_full, read_registry};
 use loader::{feed, finish};
 use page::{PAGE_SIZE, page};
 use print::{Stop, ended};
@@ -26,10 +26,6 @@ const ENTRIES: usize = (2 + FILE_SIZE / 2) + 2;
 
 // A report that takes more is refused.
 const PAGES: usize = 20;
-
-const REGISTRY: &str = "registry.dat";
-
-const REGISTRY_SIZE: usize = 262_144;
 
 // The words of so many entries, as far as a report has them.
 fn words_of(report: &[u32], entries: usize) -> usize
@@ -68,8 +64,7 @@ fn print_pages(
 
 fn main(rt: HostRuntime) -> io::Result<()> {
     let mut registry = [0; REGISTRY_SIZE + 1];
-    let read = read_file(&rt, REGISTRY, &mut registry);
-    let n = at_most(&rt, REGISTRY, REGISTRY_SIZE, read)?;
+    let n = read_registry(&rt, &mut registry)?;
     let mut file = [0; FILE_SIZE + 1];
     let read = read_full(&mut rt.reader(), &mut file);
     let m = at_most(&rt, "standard input", FILE_SIZE, read)?;

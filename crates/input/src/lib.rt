@@ -63,3 +63,19 @@ pub fn at_most(
     }
     Ok(n)
 }
+
+const REGISTRY: &str = "registry.dat";
+
+// Three times what 1,000 meters with an owner each take.
+pub const REGISTRY_SIZE: usize = 262_144;
+
+// registry.dat of the folder that a program runs in: how many bytes it has. A missing one has none, and one that is too long is said so.
+pub fn read_registry(
+    rt: &(impl Files + Eprint),
+    buffer: &mut [u8; REGISTRY_SIZE + 1],
+) -> io::Result<usize>
+    ensures { IfOk result (λ n. n < length buffer.new) }
+{
+    let read = read_file(rt, REGISTRY, buffer);
+    at_most(rt, REGISTRY, REGISTRY_SIZE, read)
+}

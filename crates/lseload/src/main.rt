@@ -8,7 +8,7 @@
 #![tactic(auto)]
 
 use cell::Cell;
-use input::{at_most, named, read_file, read_full};
+use input::{REGISTRY_SIZE, named, read_full, read_registry};
 use loader::{feed, finish};
 use print::{Stop, columns, ended, entries};
 use report::words::PER_ENTRY;
@@ -27,10 +27,6 @@ const REPORT_WORDS: usize = PER_ENTRY * (2 + PIECE_SIZE / 2);
 
 // No more pieces than this are taken before a call is refused, since there are too many bytes.
 const MOST_PIECES: usize = 1 + BYTE_LIMIT / PIECE_SIZE;
-
-const REGISTRY: &str = "registry.dat";
-
-const REGISTRY_SIZE: usize = 262_144;
 
 // Feeds standard input piece by piece, and finishes, as vectors does with its cases. The piece that is not full is the last, and may be empty.
 fn load(rt: &(impl Input + Print + Eprint), registry: &[u8]) -> Result<(), Stop> {
@@ -55,7 +51,6 @@ fn load(rt: &(impl Input + Print + Eprint), registry: &[u8]) -> Result<(), Stop>
 fn main(rt: HostRuntime) -> io::Result<()> {
     columns(&rt)?;
     let mut registry = [0; REGISTRY_SIZE + 1];
-    let read = read_file(&rt, REGISTRY, &mut registry);
-    let n = at_most(&rt, REGISTRY, REGISTRY_SIZE, read)?;
+    let n = read_registry(&rt, &mut registry)?;
     ended(&rt, load(&rt, &registry[..n]))
 }
