@@ -1,25 +1,16 @@
 -- Feed and finish ask nothing of a caller, whether the report is of entries or of words.
 -- Assumes nothing.
 use mathlib.Core.Path.{refl}
-use mathlib.Core.List.{[]}
-use base.Logic.{ent, emp, sep, via, id⊢, emp∗, mono∗}
-use contract.BorrowLft.{◌⊑◌, ⊑_static}
-use contract.Monad.{fact, fact_i}
-use base.Fml.{Lft}
-use borrow.Fn.World.{World}
 use denote.Builtin.{u32}
 use mir.Syntax.{Dict}
 use Rattle.calls.specs.RealCall.{AsksOnly}
+use Rattle.calls.proofs.Asked.{names_none}
 use Rattle.report.specs.contracts.Entry as entry
 use Rattle.loader.specs.Contract.{feed_contract, finish_contract, feed_bounds, finish_bounds}
 use Rattle.loader.specs.contracts.slot.EntrySlot.TheImpl as entries
 use Rattle.loader.specs.contracts.slot.U32Slot.TheImpl as words
 use Rattle.loader.specs.contracts.feed
 use Rattle.loader.specs.contracts.finish
-
--- of what names no lifetime nothing is asked: all is within it
-names_none : (w : World) (κ : Lft) → ent w.𝓤 (emp w.𝓤) (sep w.𝓤 (fact w.𝓤 (κ ⊑ [])) (emp w.𝓤))
-names_none w κ = via w.𝓤 (sep w.𝓤 (emp w.𝓤) (emp w.𝓤)) (emp∗ w.𝓤 (emp w.𝓤)) (mono∗ w.𝓤 (fact_i w.𝓤 (κ ⊑ []) (emp w.𝓤) (⊑_static κ)) (id⊢ w.𝓤 (emp w.𝓤)))
 
 pub feed_entries_asks : (i j : Dict) → AsksOnly (feed.ended entry.the_row entries.ghosts i j) (feed_contract entry.the_row entries.ghosts i j) feed_bounds
 feed_entries_asks i j = record { outlives = refl; requires = λ κs a w. (tt, names_none w _) }

@@ -1,24 +1,15 @@
 -- Page asks nothing of a caller, whether the report is of entries or of words.
 -- Assumes nothing.
 use mathlib.Core.Path.{refl}
-use mathlib.Core.List.{[]}
-use base.Logic.{ent, emp, sep, via, id⊢, emp∗, mono∗}
-use contract.BorrowLft.{◌⊑◌, ⊑_static}
-use contract.Monad.{fact, fact_i}
-use base.Fml.{Lft}
-use borrow.Fn.World.{World}
 use denote.Builtin.{u32}
 use mir.Syntax.{Dict}
 use Rattle.calls.specs.RealCall.{AsksOnly}
+use Rattle.calls.proofs.Asked.{names_none}
 use Rattle.report.specs.contracts.Entry as entry
 use Rattle.report.specs.contracts.listed.EntryListed.TheImpl as entries
 use Rattle.report.specs.contracts.listed.U32Listed.TheImpl as words
 use Rattle.page.specs.Contract.{page_contract, page_bounds}
 use Rattle.page.specs.contracts.page
-
--- of what names no lifetime nothing is asked: all is within it
-names_none : (w : World) (κ : Lft) → ent w.𝓤 (emp w.𝓤) (sep w.𝓤 (fact w.𝓤 (κ ⊑ [])) (emp w.𝓤))
-names_none w κ = via w.𝓤 (sep w.𝓤 (emp w.𝓤) (emp w.𝓤)) (emp∗ w.𝓤 (emp w.𝓤)) (mono∗ w.𝓤 (fact_i w.𝓤 (κ ⊑ []) (emp w.𝓤) (⊑_static κ)) (id⊢ w.𝓤 (emp w.𝓤)))
 
 pub page_entries_asks : (i j : Dict) → AsksOnly (page.ended entry.the_row entries.ghosts i j) (page_contract entry.the_row entries.ghosts i j) page_bounds
 page_entries_asks i j = record { outlives = refl; requires = λ κs a w. (tt, names_none w _) }
