@@ -15,6 +15,7 @@ fn main() {
         eprintln!("Make it by `rt lib` in crates/kilnsorrel, or set KILNSORREL_LIB to its folder.");
         std::process::exit(1);
     }
+    println!("cargo:rustc-env=KILNSORREL_ARCHIVE={}", archive.display());
     println!("cargo:rustc-link-search=native={}", folder.display());
     println!("cargo:rustc-link-lib=static=kilnsorrel");
 }

@@ -15,11 +15,11 @@ use Rattle.calendar.specs.Answer.{intervals_of_day}
 use Rattle.calendar.proofs.Laws.{intervals-three}
 use Rattle.text.specs.Byte.{Bytes}
 use Rattle.text.proofs.Truth.{fits-tested}
-use Rattle.report.specs.Outcome.{passed, require}
+use Rattle.report.specs.Outcome.{passed, require, ◌>>◌}
 use Rattle.report.specs.Refusal.{bad_registry, short_table}
 use Rattle.report.proofs.Passing.{then_passed, require-passed}
 use Rattle.registry.specs.Registry.{is_registry, meters_of, window_is}
-use Rattle.registry.proofs.Laws.{meters-most, sound-window}
+use Rattle.registry.proofs.Laws.{meters-most, window-most, window-last}
 use Rattle.registry.specs.declared.entry.Window.{Window}
 use Rattle.cell.specs.Layout.{width, max_intervals}
 use Rattle.cells.specs.Number.{channels, cell_count}
@@ -28,17 +28,18 @@ use Rattle.cells.specs.Sound.{for_table}
 
 -- ---- WHAT AN INDEX TELLS of its registry
 
-module _ (reg : Bytes) (rules : is_registry reg ≡ true) (meters : ℕ) (w : Window) (em : meters ≡ length (meters_of reg)) (ew : w ≡ window_is reg) where
+module _ (reg : Bytes) (meters : ℕ) (w : Window) (em : meters ≡ length (meters_of reg)) (ew : w ≡ window_is reg) where
   pub index-sizes : Sizes meters w.days
-  index-sizes = record { few = rw em (meters-most reg); short = rw ew (sound-window reg rules).few }
+  index-sizes = record { few = rw em (meters-most reg); short = rw ew (window-most reg) }
 
   pub window-ends : w.first + w.days ≤ last_day + 1
-  window-ends = rw ew (sound-window reg rules).ends
+  window-ends = rw ew (window-last reg)
 
   -- 3, as the code tests it
-  pub table-tested : (cells size : ℕ) → cells ≡ cell_count meters w.days → for_table (is_registry reg) (cells_of reg) size ≡ require (leb (cells * width) size) short_table
+  pub table-tested : (cells size : ℕ) → cells ≡ cell_count meters w.days
+      → for_table (is_registry reg) (cells_of reg) size ≡ (require (is_registry reg) bad_registry >> require (leb (cells * width) size) short_table)
   unfolding for_table
-  table-tested cells size e = rw (rules, e, em, ew, fits-tested (cells_of reg * width) size)
+  table-tested cells size e = rw (e, em, ew, fits-tested (cells_of reg * width) size)
 
   -- 6, as the code tests it
   pub address-tested : (m c d : ℕ) → is_address reg m c d ≡ (ltb m meters && ltb c channels && ltb d w.days)
@@ -60,7 +61,7 @@ cell-within k cells length h room =
     let b : suc k * width ≡ k * width + width = suc-mul k width in
     omega arith
 
-module _ (reg : Bytes) (rules : is_registry reg ≡ true) (meters : ℕ) (w : Window) (em : meters ≡ length (meters_of reg)) (ew : w ≡ window_is reg) (size : ℕ)
+module _ (reg : Bytes) (meters : ℕ) (w : Window) (em : meters ≡ length (meters_of reg)) (ew : w ≡ window_is reg) (size : ℕ)
     (table : passed tt ≡ for_table (is_registry reg) (cells_of reg) size) (k : ℕ) (below : k < cell_count meters w.days) where
   pub words-within : k * width + width ≤ size
   words-within = cell-within k (cells_of reg) size (rw (em, ew) at below) (table-room reg size table)

@@ -1,5 +1,5 @@
-// The cells of a registry: how many there are, the number of one, and the cell at an address in the stages that calls ask for: table (3), address (6), held (7),
-// sound (8), each a function that the next one stands on; that there is an index says that 2 does not refuse. A cell that is found is that part of the table.
+// The cells of a registry: how many there are, the number of one, and the cell at an address in the stages that calls ask for: registry and table (2, 3),
+// address (6), held (7), sound (8), each a function that the next one stands on. A cell that is found is that part of the table.
 //
 // For whoever changes it: `cell_number` is the only place that knows the order of the cells; others go by its laws (proofs/Numbers.antt):
 // below the number of cells, and no two addresses alike.
@@ -47,10 +47,11 @@ pub fn cell_number(meters: usize, days: usize, at: Address) -> usize
     (at.meter * CHANNELS + at.channel) * days + at.day
 }
 
-// 3: whether a table of so many words has room for the cells of a registry. Its index says that 2 does not refuse.
+// 2 and 3: whether a registry breaks no rule, and a table of so many words has room for its cells.
 pub fn for_table(index: &Index<'_>, size: usize) -> Result<(), Refusal>
     ensures { answers result ≡ for_table (is_registry index.now) (cells_of index.now) size }
 {
+    require(index.is_sound(), Refusal::BadRegistry)?;
     let cells = cell_count(index.meters(), index.window().days as usize);
     require(cells * Cell::WIDTH <= size, Refusal::ShortTable)
 }
@@ -94,6 +95,6 @@ pub fn find_sound<'a>(
 pub fn sound_cell<'a>(registry: &[u8], table: &'a [u32], at: Address) -> Result<&'a Words, Refusal>
     ensures { cell_says result ≡ sound_cell registry.now table.now at.meter at.channel at.day }
 {
-    let index = Index::of(registry).ok_or(Refusal::BadRegistry)?;
+    let index = Index::of(registry);
     find_sound(&index, table, at)
 }

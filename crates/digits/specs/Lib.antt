@@ -1,2 +1,3 @@
--- Numbers in decimal.
+-- Numbers in decimal, and texts put into lent bytes.
 pub mod Decimal
+pub mod Put

@@ -17,7 +17,10 @@ ghost use Rattle.std.specs.Prelude.{◌≡◌, [], ◌++◌, ◌+◌, ◌≤◌,
 ghost use Rattle.text.specs.Number.{digits_of};
 ghost use Rattle.digits.specs.Decimal.{decimal};
 
+pub mod lent;
+
 use std::marker::Model;
+use text::bytes::copy;
 
 // No number has more digits.
 pub const MOST_DIGITS: usize = 10;
@@ -94,7 +97,7 @@ impl<const N: usize> Text<N> {
     {
         let end = self.end + text.len();
         let bytes = &mut self.bytes[..];
-        bytes[self.end..end].copy_from_slice(text);
+        copy(&mut bytes[self.end..end], text);
         self.end = end;
     }
 

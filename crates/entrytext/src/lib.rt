@@ -3,12 +3,14 @@
 //     i += put_entries(&mut text, &report, i, count);      // the lines of entries from i on, as many as there is room for
 //     rt.write_all(text.bytes())?;
 //
-// For whoever changes it: a line is `line_of` of specs/Listing.antt. Nothing here writes anywhere but into the text.
+// For whoever changes it: a line is `line_of` of specs/Listing.antt. Nothing here writes anywhere but into the text, or in module `lent` into the lent bytes.
 #![tactic(auto)]
 
 ghost use Rattle.std.specs.Prelude.{◌≡◌, ◌++◌, ◌+◌, ◌*◌, ◌<◌, ◌≤◌, length};
 ghost use Rattle.report.specs.Words.{per_entry};
 ghost use Rattle.entrytext.specs.Listing.{number_then, widest, line_of, longest, lines_from};
+
+pub mod lent;
 
 use digits::{MOST_DIGITS, Text};
 use report::Entry;
@@ -18,6 +20,13 @@ use report::words::{PER_ENTRY, entry_at};
 const WIDEST: usize = MOST_DIGITS + 1;
 
 pub const LONGEST: usize = PER_ENTRY * WIDEST;
+
+// How many entries were put into lent bytes, and the place behind them.
+#[derive(Clone, Copy)]
+pub struct Listed {
+    pub entries: usize,
+    pub end: usize,
+}
 
 // Puts a number and the byte behind it.
 #[tactic(auto, using(crate::proofs::Listing::numbers))]

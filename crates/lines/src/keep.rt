@@ -3,6 +3,7 @@ ghost use Rattle.std.specs.Prelude.{◌≡◌, ◌++◌, ◌≤◌, length, take
 ghost use Rattle.lines.specs.Line.{kept_limit};
 
 use crate::line::LINE_LIMIT;
+use text::bytes::copy;
 
 pub const KEPT_LIMIT: usize = LINE_LIMIT + 1;
 
@@ -13,6 +14,6 @@ pub fn keep(kept: &mut [u8; KEPT_LIMIT], held: usize, part: &[u8]) -> usize
     ensures { (take result kept.new ≡ take kept_limit (take held kept.old ++ part.now)) × (result ≤ kept_limit) × (length kept.new ≡ kept_limit) }
 {
     let end = held + (KEPT_LIMIT - held).min(part.len());
-    kept[held..end].copy_from_slice(&part[..end - held]);
+    copy(&mut kept[held..end], &part[..end - held]);
     end
 }

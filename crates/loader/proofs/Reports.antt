@@ -113,7 +113,7 @@ module _ (w words : Words) (from count : ℕ) (fits : from + count ≤ places_in
   new = take at w ++ (mid ++ drop (at + n) w)
 
   -- which is what a copy into a part of the report leaves
-  words-put : put_mid at n w mid ≡ new
+  pub words-put : put_mid at n w mid ≡ new
   words-put = ap (λ l. take at w ++ (mid ++ l)) (drop-drop n at w)
 
   within : at + n ≤ length w

@@ -19,6 +19,7 @@ pub mod slot;
 
 use batches::end_file;
 use pieces::run::read_lines;
+use registry::Index;
 use report::refusal::Refusal;
 use slot::Slot;
 use state::refuse::admit;
@@ -33,12 +34,13 @@ pub fn feed<T: Slot>(
 ) -> Result<usize, Refusal>
     ensures { Keeps T.entries T.behind registry.now state.old table.old (asks_feed piece.now) report.old result state.new table.new report.new }
 {
-    let mut index = admit(state, registry, table.len(), T::room(report), piece.len())?;
+    let index = &mut Index::of(registry);
+    admit(state, index, table.len(), T::room(report), piece.len())?;
     state.taken += piece.len();
     let mut at: usize = 0;
     let mut count: usize = 0;
     while at < piece.len() {
-        let (next, batch) = read_lines(&mut state.scan, piece, at, &mut index, table);
+        let (next, batch) = read_lines(&mut state.scan, piece, at, index, table);
         T::put(report, count, &batch);
         at = next;
         count += batch.count();
@@ -54,8 +56,9 @@ pub fn finish<T: Slot>(
 ) -> Result<usize, Refusal>
     ensures { Keeps T.entries T.behind registry.now state.old table.old asks_finish report.old result state.new table.new report.new }
 {
-    let index = admit(state, registry, table.len(), T::room(report), 0)?;
-    let batch = end_file(&mut state.scan, &index, table);
+    let index = &Index::of(registry);
+    admit(state, index, table.len(), T::room(report), 0)?;
+    let batch = end_file(&mut state.scan, index, table);
     T::put(report, 0, &batch);
     *state = fresh();
     Ok(batch.count())

@@ -7,6 +7,7 @@ ghost use Rattle.loader.specs.Report.{pasted, left, words_left};
 use pieces::batch::Batch;
 use report::Entry;
 use report::words::{PER_ENTRY, entry_at};
+use text::bytes::copy;
 
 // `entries` are those that a report is, `behind` is what it has behind so many.
 pub trait Slot: Drop {
@@ -55,6 +56,6 @@ impl Slot for u32 {
     fn put(report: &mut [u32], from: usize, batch: &Batch) {
         let at = from * PER_ENTRY;
         let words = batch.words();
-        report[at..at + words.len()].copy_from_slice(words);
+        copy(&mut report[at..at + words.len()], words);
     }
 }

@@ -4,11 +4,15 @@ use mathlib.Core.Path.{◌≡◌, refl, ap, ◌∙◌}
 use mathlib.Core.List.{◌++◌, append-nil}
 use Prim.Native.Nat.{ℕ, ◌-◌, ◌≤◌}
 use native.Mathlib.Omega.{arith}
-use lib.ListN.{length, take, drop, replicate, length-append, length-drop}
+use lib.ListN.{length, take, drop, replicate, length-append, length-drop, length-replicate}
 use lib.Seq.{take_at, drop-length}
 use borrow.Rule.Slice.PartMut.{mid_of, put_mid, Post-is, mid_len}
 use Rattle.text.specs.Byte.{Bytes}
 use Rattle.padded.specs.Padding.{space, pad}
+
+pub pad-length : (n : ℕ) (s : Bytes) → length s ≤ n → length (pad n s) ≡ n
+unfolding pad
+pad-length n s h = length-append s (replicate (n - length s) space) ∙ omega (arith, length-replicate (n - length s) space)
 
 -- the text comes back in the front part, the spaces in the rest
 pub padded_put : (to text back spaces : Bytes) → length text ≤ length to → back ≡ text

@@ -3,7 +3,7 @@
 use mathlib.Core.Path.{◌≡◌, refl, sym, ap, ◌∙◌}
 use mathlib.Core.List.{[], ◌∷◌, ◌++◌}
 use mathlib.Core.Bool.{Bool, true, false}
-use Prim.Native.Nat.{ℕ, suc, ◌-◌, ◌<◌, ◌≤◌}
+use Prim.Native.Nat.{ℕ, zero, suc, ◌-◌, ◌<◌, ◌≤◌}
 use native.Mathlib.Omega.{arith}
 use lib.ListN.{length, get_or, take, drop, replicate, take-append-drop, length-drop}
 use lib.Seq.{take-suc, take-length}
@@ -91,11 +91,25 @@ clean-unpad class apart_from (b ∷ s) h = go s (clean-unpad class apart_from s 
 pub digits-unpad : (s : Bytes) → every is_digit s ≡ true → unpad s ≡ s
 digits-unpad s h = clean-unpad is_digit space_no_digit s h
 
+pub alnum-unpad : (s : Bytes) → every is_alnum s ≡ true → unpad s ≡ s
+alnum-unpad s h = clean-unpad is_alnum space_no_alnum s h
+
 pub spaces_unpad : (s t : Bytes) → every is_space t ≡ true → unpad (s ++ t) ≡ unpad s
 unfolding unpad every
 spaces_unpad [] [] h = refl
 spaces_unpad [] (b ∷ t) h = rw (spaces_unpad [] t (and_right (is_space b) (every is_space t) h), and_left (is_space b) (every is_space t) h)
 spaces_unpad (b ∷ s) t h = ap (unpad_to b) (spaces_unpad s t h)
+
+-- ---- PADDED, A TEXT OF LETTERS AND DIGITS is left as it was.
+
+spaces_only : (n : ℕ) → every is_space (replicate n space) ≡ true
+unfolding every
+spaces_only zero = refl
+spaces_only (suc n) = spaces_only n
+
+pub unpad-pad : (n : ℕ) (s : Bytes) → every is_alnum s ≡ true → unpad (pad n s) ≡ s
+unfolding pad
+unpad-pad n s h = spaces_unpad s (replicate (n - length s) space) (spaces_only (n - length s)) ∙ alnum-unpad s h
 
 -- ---- PADDED AGAIN, A TEXT is what it was.
 

@@ -3,7 +3,7 @@ ghost use Rattle.std.specs.Prelude.{◌≡◌, ◌<◌, ◌≤◌, length};
 ghost use Rattle.padded.specs.Padding.{is_space, pad, unpad, is_padded_esi_id, is_padded_duns};
 ghost use Rattle.padded.specs.Private.{is_padded, spaces_last};
 
-use text::bytes::{all_digits, every, is_alnum};
+use text::bytes::{all_digits, copy, every, is_alnum};
 use text::names::{DUNS_SIZE, ESI_ID_SIZE};
 
 const SPACE: u8 = b' ';
@@ -56,7 +56,7 @@ pub fn put_padded(to: &mut [u8], text: &[u8])
     ensures { to.new ≡ pad (length to.old) text.now }
 {
     let n = text.len();
-    to[..n].copy_from_slice(text);
+    copy(&mut to[..n], text);
     to[n..].fill(SPACE);
 }
 

@@ -1,13 +1,14 @@
 -- A scan as the code keeps it: the kept bytes at the front of a run of 201, the line count, the unit with what is lent of its record; and what some
 -- bytes of a piece do to it. What goes by in a run is in runs/specs/Run.
 -- Assumes nothing.
-use Rattle.std.specs.Prelude.{◌≡◌, List, ◌++◌, ℕ, ◌+◌, ◌-◌, ◌*◌, ◌<◌, ◌≤◌, length, take}
+use Rattle.std.specs.Prelude.{◌≡◌, List, ◌++◌, ℕ, ◌+◌, ◌-◌, ◌*◌, ◌<◌, ◌≤◌, length, take, replicate}
+use Rattle.std.specs.List.{flat_map}
 use Rattle.text.specs.Byte.{Bytes}
 use Rattle.lines.specs.Line.{kept_limit}
 use Rattle.lines.specs.End.{between}
 use Rattle.cell.specs.Layout.{Words}
 use Rattle.report.specs.declared.Entry.{Entry}
-use Rattle.report.specs.Words.{per_entry}
+use Rattle.report.specs.Words.{per_entry, words_of}
 use Rattle.plain.specs.Rows.{Rules, rules_of, max_details}
 use Rattle.plain.specs.Loader.{Scan, scan, scan_to, scan_events}
 use Rattle.plain.specs.Call.{byte_limit}
@@ -50,6 +51,10 @@ batch_size = 256
 
 abbrev pub batch_words : ℕ
 batch_words = batch_size * per_entry
+
+-- the words that a batch keeps: those of its entries, and zeros behind them
+unfoldable pub words_held : List Entry → List ℕ
+words_held es = flat_map words_of es ++ replicate (batch_words - length es * per_entry) 0
 
 -- the most verdicts that fall between two looks at the room: one behind a run of rows, two at a line
 abbrev pub most_said : ℕ

@@ -17,30 +17,36 @@ use std::marker::Model;
 // The entries that one batch has room for.
 pub const BATCH_SIZE: usize = 256;
 
-const BATCH_WORDS: usize = BATCH_SIZE * PER_ENTRY;
+pub const BATCH_WORDS: usize = BATCH_SIZE * PER_ENTRY;
 
-// The entries as words: so many are there. A fixed array with a count, since nothing here is on a heap.
-#[derive(Drop)]
+// The entries as words: so many are there. A fixed array with a count, since nothing here is on a heap. The words behind them are zeros, so that the
+// entries alone say what the fields are: else a batch would not be `Copy`.
+#[derive(Clone, Copy)]
 pub struct Batch {
     count: usize,
     words: [u32; BATCH_WORDS],
 }
 
 impl Model for Batch {
-    ghost use Rattle.std.specs.Prelude.{List, ◌≤◌};
+    ghost use Rattle.std.specs.Prelude.{◌≡◌, List, ◌≤◌, length};
     ghost use Rattle.report.specs.Words.{first_entries};
     ghost use Rattle.report.specs.declared.Entry.{Entry as Entered};
-    ghost use Rattle.pieces.specs.Ran.{batch_size};
+    ghost use Rattle.report.proofs.Entries.{entries-count};
+    ghost use Rattle.pieces.specs.Ran.{batch_size, words_held};
 
     ghost Value = { List Entered };
 
     ghost view = { λ b. first_entries b.count b.words };
 
-    ghost invariant = { λ b. b.count ≤ batch_size };
+    ghost invariant = { λ b. (b.count ≤ batch_size) × (words_held (first_entries b.count b.words) ≡ b.words) };
+
+    ghost inverse = { λ es. record { count = length es; words = words_held es } };
+
+    ghost inverse_ok = { λ b h i. record { count = entries-count b.count b.words i; words = h.1 i } };
 }
 
 impl Batch {
-    #[tactic(auto, unfolding(report::specs::Words::first_entries))]
+    #[tactic(auto, unfolding(report::specs::Words::first_entries, crate::specs::Ran::words_held))]
     pub fn new() -> Batch
         ensures { result ≡ [] }
     {
@@ -70,7 +76,9 @@ impl Batch {
         ensures { self.new ≡ self.old ++ told said }
     {
         if let Some(e) = said {
-            put_entry(&mut self.words, self.count, e);
+            let n = self.count;
+            // of the words up to its end, so that those behind it stay zeros
+            put_entry(&mut self.words[..(n + 1) * PER_ENTRY], n, e);
             self.count += 1;
         }
     }

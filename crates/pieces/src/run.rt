@@ -4,7 +4,8 @@ ghost use Rattle.units.specs.Answer.{HasRoom};
 ghost use Rattle.pieces.specs.Ran.{scan_of, Holds, batch_size, most_said, Runs};
 
 use crate::Scan;
-use crate::batch::{BATCH_SIZE, Batch};
+use crate::batch::Batch;
+pub use crate::batch::{BATCH_SIZE, BATCH_WORDS};
 use crate::line::next_line;
 use registry::Index;
 use runs::run_over;

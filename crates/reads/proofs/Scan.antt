@@ -88,7 +88,7 @@ none-whole w at from h fits =
     rw (start, here, next, div-one) at (none-word w (at - marks_at) 0 word_bits (omega arith) (omega arith) (rw here fits))
 
 module _ (w : Words) (n : ℕ) where
-  clear_first : n < mark_bits → get_or w (mark_word n) 0 < 2 ^ word_bits
+  pub clear_first : n < mark_bits → get_or w (mark_word n) 0 < 2 ^ word_bits
       → none_from n w ≡ (eqb (get_or w (mark_word n) 0 / 2 ^ (n % word_bits)) 0 && none_from ((mark_word n + 1 - marks_at) * word_bits) w)
   clear_first h fits =
       let e : n / word_bits * word_bits + n % word_bits ≡ n = omega arith in

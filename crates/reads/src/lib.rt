@@ -15,6 +15,7 @@ ghost use Rattle.reads.specs.Load.{cell_at, holds_none, is_later, loaded};
 
 use cell::{Cell, Words, stamp_in};
 use headers::time::Stamp;
+use text::bytes::copy;
 
 pub mod sound;
 
@@ -56,6 +57,6 @@ pub fn load(table: &mut [u32], c: usize, read: &Words)
 {
     if replaces(read, cell_at(table, c)) {
         let at = c * Cell::WIDTH;
-        table[at..at + Cell::WIDTH].copy_from_slice(read);
+        copy(&mut table[at..at + Cell::WIDTH], read);
     }
 }

@@ -2,12 +2,13 @@
 -- Assumes nothing.
 use mathlib.Core.Path.{◌≡◌, refl, sym}
 use mathlib.Core.List.{List, [], ◌∷◌}
-use mathlib.Core.Bool.{Bool, true, false, cond}
+use mathlib.Core.Bool.{Bool, true, false}
 use Rattle.std.specs.Prelude.{Option, Some, None, is_some}
 use Prim.Native.Nat.{ℕ, zero, suc, ◌+◌, ◌≤◌, ◌<◌}
 use native.Mathlib.Omega.{arith}
 use lib.ListN.{length, take, get_or}
 use lib.Seq.{length-take-le}
+use Rattle.calendar.specs.Day.{last_day}
 use Rattle.text.specs.Byte.{Bytes}
 use Rattle.text.specs.Identifier.{esi_id_size}
 use Rattle.text.proofs.Truth.{apart}
@@ -16,13 +17,21 @@ use Rattle.padded.specs.Padding.{is_padded_esi_id, is_padded_duns}
 use Rattle.std.specs.declared.cmp.Ordering.TheVariants.{Less}
 use Rattle.padded.proofs.Bytewise.{order_trans}
 use Rattle.registry.specs.Entry.{window_size, owner_size, max_days, all_flags, start_of}
-use Rattle.registry.specs.Registry.{Registry, Meter, Seen, max_meters, none_seen, entries, start_with, registry_of, no_window, window_in, is_registry, meters_of, window_is}
-use Rattle.registry.specs.Index.{no_meter, meter_at, index_of}
+use Rattle.registry.specs.Registry.{Registry, Meter, Seen, max_meters, none_seen, entries, start_with, registry_of, no_window, window_in, meters_in, is_registry, meters_of, window_is}
+use Rattle.registry.specs.Index.{no_meter, meter_at}
 use Rattle.registry.specs.declared.entry.Window.{Window}
 use Rattle.registry.proofs.Opening.{Kept, start-kept}
 use Rattle.registry.proofs.Reading.{Read, end, owner, meter, OwnerBody, meters-read}
 
--- ---- WHERE A RULE IS BROKEN there is no window.
+-- ---- WHERE A RULE IS BROKEN there is no meter and no window.
+
+pub unsound_meters : (reg : Bytes) → is_registry reg ≡ false → meters_of reg ≡ []
+unfolding is_registry meters_of
+unsound_meters reg = go (registry_of reg)
+  where
+    go : (x : Option Registry) → is_some x ≡ false → meters_in x ≡ []
+    go None e = refl
+    go (Some r) e = absurd (apart (sym e))
 
 pub unsound-window : (reg : Bytes) → is_registry reg ≡ false → window_is reg ≡ no_window
 unfolding is_registry window_is
@@ -31,25 +40,6 @@ unsound-window reg = go (registry_of reg)
     go : (x : Option Registry) → is_some x ≡ false → window_in x ≡ no_window
     go None e = refl
     go (Some r) e = absurd (apart (sym e))
-
--- ---- ITS INDEX is there, where none is broken
-
-module _ (reg : Bytes) where
-  pub index-none : None ≡ index_of reg → is_registry reg ≡ false
-  unfolding index_of
-  index-none = go (is_registry reg)
-    where
-      go : (t : Bool) → None ≡ cond t (Some reg) None → t ≡ false
-      go true e = absurd cc
-      go false e = refl
-
-  pub index-some : (i : Bytes) → Some i ≡ index_of reg → (is_registry reg ≡ true) × (i ≡ reg)
-  unfolding index_of
-  index-some i = go (is_registry reg)
-    where
-      go : (t : Bool) → Some i ≡ cond t (Some reg) None → (t ≡ true) × (i ≡ reg)
-      go true e = (refl, cc)
-      go false e = absurd cc
 
 -- ---- WHERE NONE IS, the window has 1 to 62 days, up to 20991231.
 
@@ -62,12 +52,19 @@ sound-window reg = go (start_of reg) (entries (window_size + 1) none_seen reg) r
     go (Some w) None e f = absurd (apart f)
     go (Some w) (Some ms) e f = start-kept reg w e
 
--- none is longer, not even where a rule is broken
+-- none is longer or later, not even where a rule is broken
 pub window-most : (reg : Bytes) → (window_is reg).days ≤ max_days
 window-most reg = go (is_registry reg) refl
   where
     go : (t : Bool) → is_registry reg ≡ t → (window_is reg).days ≤ max_days
     go true e = (sound-window reg e).few
+    go false e = rw (unsound-window reg e) (omega arith)
+
+pub window-last : (reg : Bytes) → (window_is reg).first + (window_is reg).days ≤ last_day + 1
+window-last reg = go (is_registry reg) refl
+  where
+    go : (t : Bool) → is_registry reg ≡ t → (window_is reg).first + (window_is reg).days ≤ last_day + 1
+    go true e = (sound-window reg e).ends
     go false e = rw (unsound-window reg e) (omega arith)
 
 -- ---- AT MOST 1,000 METERS

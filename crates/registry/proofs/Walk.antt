@@ -2,22 +2,24 @@
 -- Assumes nothing.
 use mathlib.Core.Path.{◌≡◌, refl, sym, ap, ◌∙◌}
 use mathlib.Core.List.{List, [], ◌∷◌, ◌++◌, append_assoc, append-nil}
-use mathlib.Core.Bool.{Bool, true, false, and-false}
+use mathlib.Core.Bool.{Bool, true, false, ◌&&◌}
 use mathlib.Core.Logic.{⊎_elim}
-use Rattle.std.specs.Prelude.{Option, Some, None, IfSome}
+use Rattle.std.specs.Prelude.{Option, Some, None, IfSome, IsSome, is_some}
 use Prim.Native.Nat.{ℕ, zero, suc, ◌+◌, ◌≤◌, ◌<◌}
 use native.Mathlib.Nat.{eq-or-lt_of_le}
 use native.Mathlib.Omega.{arith}
 use lib.ListN.{length, take, drop, get_or, set, length-append, length-drop, length-set, get_or-append}
 use lib.Seq.{drop-drop, get_or-drop, get_or_at, get_or-set_same, get_or-set_other}
-use borrow.Author.Tests.{lt-ltb, le-ltb}
+use lib.Dec.{ltb}
+use borrow.Author.Tests.{ltb-true}
 use Rattle.text.specs.Byte.{Bytes}
 use Rattle.text.specs.Identifier.{esi_id_size}
 use Rattle.text.proofs.Left.{left-cons, left-none}
+use Rattle.text.proofs.Truth.{and_left, and_right}
 use Rattle.padded.specs.Order.{below}
 use Rattle.registry.specs.Entry.{window_size, owner_size, meter_size, start_of, entry_kind}
-use Rattle.registry.specs.Registry.{Meter, Seen, max_meters, none_seen, with_owner, with_meter, in_order, meter_of, before, entries, start_with, registry_of, is_registry, meters_of, window_is}
-use Rattle.registry.specs.Index.{bytes_at, seen_at, no_meter, no_place, MeterAt, OwnerAt, Indexes, index_of}
+use Rattle.registry.specs.Registry.{Meter, Seen, max_meters, none_seen, with_owner, with_meter, in_order, meter_of, before, entries, start_with, registry_of, no_window, is_registry, meters_of, window_is}
+use Rattle.registry.specs.Index.{bytes_at, seen_at, no_meter, no_place, MeterAt, OwnerAt, Indexes}
 use Rattle.registry.specs.declared.Place.{Place}
 use Rattle.registry.specs.declared.entry.Window.{Window}
 use Rattle.registry.specs.declared.entry.Kind.{Kind}
@@ -25,6 +27,7 @@ use Rattle.registry.specs.declared.entry.Kind.TheVariants.{Owner, Meter as AMete
 use Rattle.registry.proofs.Entries.{text-length}
 use Rattle.registry.proofs.Opening.{start_fits}
 use Rattle.registry.proofs.Reading.{owner-body, meter-body}
+use Rattle.registry.proofs.Laws.{unsound_meters, unsound-window}
 
 -- ---- one entry on
 
@@ -138,37 +141,46 @@ nothing : (s : Option Window) → start_with s None ≡ None
 nothing None = refl
 nothing (Some w) = refl
 
-broken : (reg : Bytes) → registry_of reg ≡ None → None ≡ index_of reg
-unfolding is_registry index_of
+broken : (reg : Bytes) → registry_of reg ≡ None → is_registry reg ≡ false
+unfolding is_registry
 broken reg e = rw e
 
--- a meter that may not stand here, or may
-module _ (reg : Bytes) (owner last : Option ℕ) (count at : ℕ) where
-  unowned : owner ≡ None → in_order (seen_at reg owner last count) (drop (at + 1) reg) ≡ false
-  unfolding in_order
-  unowned e = rw e
+-- ---- WHETHER A METER MAY STAND at a place, as the code tests it
 
-  full : max_meters ≤ count → in_order (seen_at reg owner last count) (drop (at + 1) reg) ≡ false
-  unfolding in_order
-  full h = rw (le-ltb count max_meters h, and-false)
+pub order-tested : (reg : Bytes) (owner last : Option ℕ) (count at : ℕ) → IfSome owner (λ p. p + owner_size < length reg)
+    → (b : Bool) → b ≡ below (bytes_at esi_id_size reg last) (take esi_id_size (drop (at + 1) reg))
+    → ((is_some owner && ltb count max_meters) && b) ≡ in_order (seen_at reg owner last count) (drop (at + 1) reg)
+unfolding in_order
+order-tested reg None last count at whole b e = refl
+order-tested reg (Some p) last count at whole b e = rw (text-length reg p owner_size whole, e)
 
-  not_below : below (bytes_at esi_id_size reg last) (take esi_id_size (drop (at + 1) reg)) ≡ false → in_order (seen_at reg owner last count) (drop (at + 1) reg) ≡ false
-  unfolding in_order
-  not_below e = rw (e, and-false)
+-- where it may, there is an owner, and room
+module _ (reg : Bytes) (owner last : Option ℕ) (count at : ℕ) (o : in_order (seen_at reg owner last count) (drop (at + 1) reg) ≡ true) where
+  abbrev owned : Bool
+  owned = ltb 0 (length (bytes_at owner_size reg owner))
 
-  ordered-by : (p : ℕ) → owner ≡ Some p → p + owner_size < length reg → count < max_meters → below (bytes_at esi_id_size reg last) (take esi_id_size (drop (at + 1) reg)) ≡ true
-      → in_order (seen_at reg owner last count) (drop (at + 1) reg) ≡ true
+  tests : (owned && ltb count max_meters) ≡ true
   unfolding in_order
-  ordered-by p e w c b = rw (e, text-length reg p owner_size w, lt-ltb count max_meters c, b)
+  tests = and_left (owned && ltb count max_meters) (below (bytes_at esi_id_size reg last) (take esi_id_size (drop (at + 1) reg))) o
+
+  pub order-room : count < max_meters
+  order-room = ltb-true count max_meters (and_right owned (ltb count max_meters) tests)
+
+  pub order-owner : IsSome owner
+  order-owner = go owner (and_left owned (ltb count max_meters) tests)
+    where
+      go : (x : Option ℕ) → ltb 0 (length (bytes_at owner_size reg x)) ≡ true → IsSome x
+      go None e = absurd cc
+      go (Some p) e = refl
 
 module _ {reg : Bytes} {window : Window} {places : List Place} {at : ℕ} {owner last : Option ℕ} {count : ℕ} (w : Walked reg window places at owner last count)
     (h : at < length reg) (kind : Option Kind) (ek : kind ≡ entry_kind (drop at reg)) where
   -- a broken rule at a later entry breaks the registry
-  stopped : entries 0 (seen_at reg owner last count) (drop at reg) ≡ None → None ≡ index_of reg
-  unfolding registry_of is_registry index_of
+  stopped : entries 0 (seen_at reg owner last count) (drop at reg) ≡ None → is_registry reg ≡ false
+  unfolding registry_of
   stopped e = broken reg (ap (start_with (start_of reg)) (w.rest ∙ ap (after w.done) e) ∙ nothing (start_of reg))
 
-  pub walk_broken : kind ≡ None → None ≡ index_of reg
+  pub walk_broken : kind ≡ None → is_registry reg ≡ false
   walk_broken e = stopped (at_broken reg at h (seen_at reg owner last count) (sym ek ∙ e))
 
   -- AN OWNER
@@ -197,20 +209,20 @@ module _ {reg : Bytes} {window : Window} {places : List Place} {at : ℕ} {owner
     pub meter-whole : at + meter_size < length reg
     meter-whole = meter-fits reg at h is-meter
 
-    disordered : in_order (seen_at reg owner last count) (drop (at + 1) reg) ≡ false → None ≡ index_of reg
+    disordered : in_order (seen_at reg owner last count) (drop (at + 1) reg) ≡ false → is_registry reg ≡ false
     disordered f = stopped (at_disorder reg at h (seen_at reg owner last count) is-meter f)
 
-    pub walk_unowned : owner ≡ None → None ≡ index_of reg
-    walk_unowned e = disordered (unowned reg owner last count at e)
+    module _ (b : Bool) (eb : b ≡ in_order (seen_at reg owner last count) (drop (at + 1) reg)) where
+      pub walk_disorder : b ≡ false → is_registry reg ≡ false
+      walk_disorder f = disordered (sym eb ∙ f)
 
-    pub walk_full : max_meters ≤ count → None ≡ index_of reg
-    walk_full e = disordered (full reg owner last count at e)
+      module _ (p : ℕ) (eo : owner ≡ Some p) (hb : b ≡ true) where
+        order : in_order (seen_at reg owner last count) (drop (at + 1) reg) ≡ true
+        order = sym eb ∙ hb
 
-    module _ (b : Bool) (eb : b ≡ below (bytes_at esi_id_size reg last) (take esi_id_size (drop (at + 1) reg))) where
-      pub walk_disorder : b ≡ false → None ≡ index_of reg
-      walk_disorder f = disordered (not_below reg owner last count at (sym eb ∙ f))
+        room : count < max_meters
+        room = order-room reg owner last count at order
 
-      module _ (p : ℕ) (eo : owner ≡ Some p) (room : count < max_meters) (hb : b ≡ true) where
         here : MeterAt reg at (meter_of (seen_at reg owner last count) (drop (at + 1) reg))
         here =
             let n : at + 1 + esi_id_size ≡ at + meter_size = omega arith in
@@ -231,7 +243,7 @@ module _ {reg : Bytes} {window : Window} {places : List Place} {at : ℕ} {owner
               done = w.done ++ (m ∷ []);
               rest =
                   w.rest
-                  ∙ ap (after w.done) (at-meter reg at h (seen_at reg owner last count) is-meter (ordered-by reg owner last count at p eo (rw eo at w.owner-whole) room (sym eb ∙ hb)))
+                  ∙ ap (after w.done) (at-meter reg at h (seen_at reg owner last count) is-meter order)
                   ∙ after-before w.done m (entries 0 (with_meter (drop (at + 1) reg) (seen_at reg owner last count)) (drop (at + (meter_size + 1)) reg));
               counted = length-append w.done (m ∷ []) ∙ ap (λ (n : ℕ). n + 1) w.counted;
               within = omega (arith, meter-whole);
@@ -245,7 +257,7 @@ module _ {reg : Bytes} {window : Window} {places : List Place} {at : ℕ} {owner
 
 -- ---- WHAT IS RETURNED
 
-pub start_broken : (reg : Bytes) (s : Option Window) → s ≡ start_of reg → s ≡ None → None ≡ index_of reg
+pub start_broken : (reg : Bytes) (s : Option Window) → s ≡ start_of reg → s ≡ None → is_registry reg ≡ false
 unfolding registry_of
 start_broken reg s es e = broken reg (rw (sym es ∙ e))
 
@@ -256,7 +268,7 @@ module _ (reg : Bytes) (window : Window) (places : List Place) (count : ℕ) {at
       let e : entries (window_size + 1) none_seen reg ≡ Some w.done = w.rest ∙ rw (left-none reg at h, append-nil) in
       rw (w.start, e)
 
-  pub index-whole : Indexes reg window count places
+  pub index-whole : Indexes reg true window count places
   unfolding is_registry meters_of window_is
   index-whole = record {
     rules = rw whole;
@@ -267,6 +279,13 @@ module _ (reg : Bytes) (window : Window) (places : List Place) (count : ℕ) {at
     owner = λ m i. rw whole (w.owner_at m i);
   }
 
-  pub index_sound : Some reg ≡ index_of reg
-  unfolding index_of
-  index_sound = rw index-whole.rules
+-- of a registry that breaks a rule
+pub index-none : (reg : Bytes) (places : List Place) → is_registry reg ≡ false → Indexes reg false no_window 0 places
+index-none reg places e = record {
+  rules = sym e;
+  windowed = sym (unsound-window reg e);
+  counted = rw (unsound_meters reg e);
+  room = omega arith;
+  meter = λ m i. absurd (omega arith);
+  owner = λ m i. absurd (omega arith);
+}

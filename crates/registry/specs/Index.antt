@@ -1,6 +1,6 @@
 -- The index of a registry, and the meter of an ESI ID, in the definition's words.
 -- Assumes nothing.
-use Rattle.std.specs.Prelude.{◌≡◌, List, [], ◌∷◌, true, cond, ℕ, suc, ◌+◌, ◌≤◌, ◌<◌, length, take, drop, get_or, Option, Some, None}
+use Rattle.std.specs.Prelude.{◌≡◌, List, [], ◌∷◌, Bool, cond, ℕ, suc, ◌+◌, ◌≤◌, ◌<◌, length, take, drop, get_or, Option, Some, None}
 use Rattle.text.specs.Byte.{Bytes, equals}
 use Rattle.text.specs.Identifier.{esi_id_size}
 use Rattle.registry.specs.Entry.{owner_size, meter_size}
@@ -38,18 +38,14 @@ pub record OwnerAt (reg : Bytes) (place : ℕ) (m : Meter) : Type 0 where
 abbrev pub no_place : Place
 no_place = record { meter = 0; owner = 0 }
 
--- what an index holds of its registry: that it breaks no rule, its window, and the places of its meters and their owners
-pub record Indexes (reg : Bytes) (window : Window) (count : ℕ) (places : List Place) : Type 0 where
-  pub rules : is_registry reg ≡ true
+-- what an index holds of its registry: whether it breaks no rule, its window, and the places of its meters and their owners
+pub record Indexes (reg : Bytes) (sound : Bool) (window : Window) (count : ℕ) (places : List Place) : Type 0 where
+  pub rules : sound ≡ is_registry reg
   pub windowed : window ≡ window_is reg
   pub counted : length (meters_of reg) ≡ count
   pub room : count ≤ length places
   pub meter : (m : ℕ) → m < count → MeterAt reg (get_or places m no_place).meter (meter_at reg m)
   pub owner : (m : ℕ) → m < count → OwnerAt reg (get_or places m no_place).owner (meter_at reg m)
-
--- the index of a registry, which in a clause is its bytes; none, if it breaks a rule
-unfoldable pub index_of : Bytes → Option Bytes
-index_of reg = cond (is_registry reg) (Some reg) None
 
 abbrev pub onward : Option ℕ → Option ℕ
 onward (Some i) = Some (suc i)

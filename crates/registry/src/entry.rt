@@ -41,13 +41,21 @@ pub enum Kind {
     Meter,
 }
 
-// The first N bytes behind the kind byte of the entry at a place.
+// The first `size` bytes behind the kind byte of the entry at a place.
+pub fn bytes_at(registry: &[u8], place: usize, size: usize) -> &[u8]
+    requires { place + size < length registry.now }
+    ensures { (result.now ≡ take size (drop (place + 1) registry.now)) × (length result.now ≡ size) }
+{
+    let start = place + 1;
+    &registry[start..start + size]
+}
+
+// The same as an array, where the size is a constant.
 pub fn text_at<const N: usize>(registry: &[u8], place: usize) -> &[u8; N]
     requires { place + N < length registry.now }
     ensures { result.now ≡ take N (drop (place + 1) registry.now) }
 {
-    let start = place + 1;
-    registry[start..start + N].as_array().unwrap()
+    bytes_at(registry, place, N).as_array().unwrap()
 }
 
 // The window of a first entry, if its body is a right one. A call of its own: inlined, it moves the walk over the entries behind it, which was a fifth slower

@@ -1,6 +1,7 @@
 // The registry: its rules, an index of its meters, and the meter of an ESI ID.
 //
-//     let mut index = Index::of(registry)?;          // one walk over the bytes; none, where a rule is broken
+//     let mut index = Index::of(registry);           // one walk over the bytes
+//     if !index.is_sound() { .. }                    // a rule is broken: refused 2; no window, no meters
 //     let meter = index.find(id)?;                   // the meter with this ESI ID, padded to 64 bytes: from 0, or none
 //     index.try_first(meter);                        // the next one is likely the same
 //     index.flags(meter) ..                          // id_of, owner_of and is_owned tell of it too
@@ -11,13 +12,13 @@
 // window is `MAX_DAYS`. Owners are unlimited and a meter's owner is kept with the meter, so a registry may be of any length.
 #![tactic(auto)]
 
-ghost use Rattle.std.specs.Prelude.{◌≡◌, true, ◌+◌, ◌<◌, length, take, drop, IfSome};
+ghost use Rattle.std.specs.Prelude.{◌≡◌, false, ◌+◌, ◌<◌, length, take, drop, IfSome};
 ghost use Rattle.text.specs.Byte.{equals};
 ghost use Rattle.text.specs.Identifier.{esi_id_size};
 ghost use Rattle.padded.specs.Order.{below};
-ghost use Rattle.registry.specs.Entry.{meter_size};
-ghost use Rattle.registry.specs.Registry.{is_registry, meters_of, window_is};
-ghost use Rattle.registry.specs.Index.{bytes_at, index_of, meter_at, find_meter};
+ghost use Rattle.registry.specs.Entry.{owner_size, meter_size};
+ghost use Rattle.registry.specs.Registry.{in_order, is_registry, meters_of, window_is};
+ghost use Rattle.registry.specs.Index.{bytes_at, seen_at, meter_at, find_meter};
 
 pub mod entry;
 
@@ -38,11 +39,12 @@ pub struct Place {
     pub owner: usize,
 }
 
-// A registry that breaks no rule, its window, and the places of its meters. A fixed array with a count, since nothing here is on a heap. The hint is the
-// meter that `find` tries first; any number may be one.
-#[derive(Drop)]
+// A registry, whether it breaks no rule, its window, and the places of its meters. A fixed array with a count, since nothing here is on a heap. The hint
+// is the meter that `find` tries first; any number may be one.
+#[derive(Clone, Drop)]
 pub struct Index<'a> {
     registry: &'a [u8],
+    sound: bool,
     window: Window,
     count: usize,
     places: [Place; MAX_METERS],
@@ -58,7 +60,7 @@ impl<'a> Model for Index<'a> {
 
     ghost view = { λ i. i.registry.now };
 
-    ghost invariant = { λ i. Indexes i.registry.now i.window i.count i.places };
+    ghost invariant = { λ i. Indexes i.registry.now i.sound i.window i.count i.places };
 }
 
 // Whether the meter at a place comes behind the last one, by their ESI IDs.
@@ -73,34 +75,66 @@ fn comes_after(registry: &[u8], last: Option<usize>, at: usize) -> bool
     compare(text_at(registry, last), text_at(registry, at)).is_lt()
 }
 
+// Whether a meter may stand at a place: the last owner and the last meter stand at these, and there are `count` meters so far.
+fn in_order(
+    registry: &[u8],
+    owner: Option<usize>,
+    last: Option<usize>,
+    count: usize,
+    at: usize,
+) -> bool
+    requires whole { at + meter_size < length registry.now }
+    requires owner_whole { IfSome owner (λ p. p + owner_size < length registry.now) }
+    requires last_whole { IfSome last (λ p. p + meter_size < length registry.now) }
+    ensures { result ≡ in_order (seen_at registry.now owner last count) (drop (at + 1) registry.now) }
+{
+    owner.is_some() & (count < MAX_METERS) & comes_after(registry, last, at)
+}
+
+// The index of a registry that breaks a rule: it has no window and no meter.
+fn broken<'a>(registry: &'a [u8]) -> Index<'a>
+    requires { is_registry registry.now ≡ false }
+    ensures { result ≡ registry.now }
+{
+    Index {
+        registry,
+        sound: false,
+        window: Window { first: 0, days: 0 },
+        count: 0,
+        places: [Place { meter: 0, owner: 0 }; MAX_METERS],
+        hint: 0,
+    }
+}
+
 impl<'a> Index<'a> {
-    // The index of a registry; none, if it breaks a rule.
-    pub fn of(registry: &'a [u8]) -> Option<Index<'a>>
-        ensures { result ≡ index_of registry.now }
+    // The index of any registry. It is given by itself, and not as an Option or a Result: of these a call moves the whole index.
+    pub fn of(registry: &'a [u8]) -> Index<'a>
+        ensures { result ≡ registry.now }
     {
-        let window = read_start(registry)?;
+        let Some(window) = read_start(registry) else {
+            return broken(registry);
+        };
         let mut places = [Place { meter: 0, owner: 0 }; MAX_METERS];
         let mut count: usize = 0;
         let mut owner: Option<usize> = None;
         let mut last: Option<usize> = None;
         let mut at: usize = WINDOW_SIZE + 1;
         while at < registry.len() {
-            match kind_at(registry, at)? {
+            let Some(kind) = kind_at(registry, at) else {
+                return broken(registry);
+            };
+            match kind {
                 Kind::Owner => {
                     owner = Some(at);
                     at += OWNER_SIZE + 1;
                 }
                 Kind::Meter => {
-                    let theirs = owner?;
-                    if MAX_METERS <= count {
-                        return None;
-                    }
-                    if !comes_after(registry, last, at) {
-                        return None;
+                    if !in_order(registry, owner, last, count, at) {
+                        return broken(registry);
                     }
                     places[count] = Place {
                         meter: at,
-                        owner: theirs,
+                        owner: owner.unwrap(),
                     };
                     count += 1;
                     last = Some(at);
@@ -108,17 +142,25 @@ impl<'a> Index<'a> {
                 }
             }
         }
-        Some(Index {
+        Index {
             registry,
+            sound: true,
             window,
             count,
             places,
             hint: 0,
-        })
+        }
+    }
+
+    // Whether the registry breaks no rule.
+    pub fn is_sound(&self) -> bool
+        ensures { result ≡ is_registry self.now }
+    {
+        self.sound
     }
 
     pub fn window(&self) -> Window
-        ensures { (result ≡ window_is self.now) × (is_registry self.now ≡ true) }
+        ensures { result ≡ window_is self.now }
     {
         self.window
     }

@@ -19,7 +19,7 @@ use Rattle.headers.specs.declared.time.Stamp.{Stamp}
 use Rattle.details.specs.Value.{point, whole_digits, part_digits, per_kwh}
 use Rattle.details.specs.Detail.{per_row, detail_code}
 use Rattle.details.specs.declared.detail.Interval.{Interval}
-use Rattle.rowtext.specs.Text.{with_commas, time_text, stamp_text, channel_text, value_text, status_text, interval_fields, row_fields, line_one, line_three, line_four, line_thirty, line_detail}
+use Rattle.rowtext.specs.Text.{with_commas, time_text, stamp_text, channel_text, value_text, status_text, interval_fields, row_fields, line_one, line_two, line_three, line_four, line_thirty, line_detail}
 
 -- ---- fields
 
@@ -64,6 +64,9 @@ pub one-length : (id : Bytes) (c date : ℕ) → length (line_one id c date) ≡
 unfolding line_one
 one-length id c date =
     joined_length _ _ ∙ omega (arith, channel-length c, time_length date 0, time_length date day_stop)
+
+pub two-length : length line_two ≡ 29
+two-length = refl
 
 pub three-length : (s : Bytes) → length (line_three s) ≡ length s + 9
 unfolding line_three

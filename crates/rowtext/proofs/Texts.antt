@@ -22,7 +22,7 @@ use Rattle.lines.specs.Text.{row}
 use Rattle.rowtext.specs.Text.{with_commas, time_text, stamp_text, channel_text, value_text, status_text, interval_fields, row_fields, line_one, line_three, line_four, line_thirty, line_detail}
 use Rattle.digits.specs.Decimal.{trimmed, decimal}
 use Rattle.rowtext.specs.Value.{whole_end, value_end}
-use Rattle.rowtext.proofs.Lengths.{channel-length, time_length}
+use Rattle.rowtext.proofs.Lengths.{channel-length, status-length, time_length}
 
 -- the interval's fields with the comma before each
 abbrev pub interval_text : Interval → Bytes
@@ -53,6 +53,9 @@ value-is wh h = rw (decimal-six (wh / per_kwh) (omega arith)) (sym (append_snoc 
 pub interval_is : (v : Interval) → interval_text v ≡ ascii "," ++ value_text v.wh ++ (ascii "," ++ status_text v.estimated ++ ascii ",")
 unfolding with_commas
 interval_is v = refl
+
+pub interval_length : (v : Interval) → length (interval_text v) ≡ 4 + length (value_text v.wh)
+interval_length v = ap length (interval_is v) ∙ simp length-append (omega (arith, status-length v.estimated))
 
 -- LINES
 

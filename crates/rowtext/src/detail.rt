@@ -11,10 +11,10 @@ use details::value::PART_DIGITS;
 use digits::Text;
 
 // The watt hours of a kWh.
-const PER_KWH: u32 = 1000;
+pub(crate) const PER_KWH: u32 = 1000;
 
 // The digits of a row's number in its code.
-const ROW_DIGITS: usize = 2;
+pub(crate) const ROW_DIGITS: usize = 2;
 
 // A value below 1,000 MWh is asked where it is written, and is no invariant of `Interval`: a cell takes one with any number.
 #[tactic(auto, using(crate::proofs::Texts::value_parts))]

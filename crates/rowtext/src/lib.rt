@@ -9,4 +9,5 @@
 #![tactic(auto)]
 
 pub mod detail;
+pub mod lent;
 pub mod rows;

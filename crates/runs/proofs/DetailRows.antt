@@ -56,7 +56,7 @@ detail_body s h =
     rw t.1 (detail_ended t.0)
 
 -- within the piece
-direct_within : (k : ℕ) (piece : Bytes) (at n : ℕ) (vs : List Interval) → DetailLine k (drop at piece) vs n → at + n < length piece
+pub direct_within : (k : ℕ) (piece : Bytes) (at n : ℕ) (vs : List Interval) → DetailLine k (drop at piece) vs n → at + n < length piece
 direct_within k piece at n vs d = omega (arith, d.within, length-drop at piece)
 
 module _ (reg s : Bytes) (k n : ℕ) (vs : List Interval) (d : DetailLine k s vs n) (rows : Rows) (e : header_rows ≤ rows.behind_one)

@@ -57,7 +57,7 @@ or_none false true c d h = absurd (apart (sym h))
 or_none false false true d h = absurd (apart (sym h))
 or_none false false false true h = absurd (apart (sym h))
 
-not_full : (s : State) → overfull (view_of s) ≡ false → Fits s
+pub not_full : (s : State) → overfull (view_of s) ≡ false → Fits s
 unfolding overfull view_of
 not_full s h =
     let all = or_none (ltb kept_limit s.scan.held) (ltb byte_limit s.taken) (ltb max_details (details_in (unit_of s.scan.unit s.scan.parts)))

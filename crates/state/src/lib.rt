@@ -1,13 +1,13 @@
 // What is kept between calls, and what a call asks of it first.
 //
 //     let mut state = fresh();
-//     let index = admit(&state, registry, table.len(), room, piece.len())?;     // the registry's index, or why the call is refused
+//     admit(&state, &Index::of(registry), table.len(), room, piece.len())?;     // why the call is refused, if it is
 //
 // A state is plain data. Any values of the fields are some state; refusal 1 is of those that hold more than a file can leave behind. What a state is in
 // the plain loader's terms is specs/View.antt, what a call returns is specs/Refused.antt.
 //
-// For whoever changes it: `admit` gets the table, report and piece as their lengths, so that the calls that hold these have nothing to say of refusals
-// themselves.
+// For whoever changes it: `admit` gets the registry as its index, and the table, report and piece as their lengths, so that the calls that hold these have
+// nothing to say of refusals themselves. It does not give the index back: that would move it, 16 KB, once a call.
 #![tactic(auto)]
 
 ghost use Rattle.std.specs.Prelude.{◌≡◌};

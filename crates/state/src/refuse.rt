@@ -1,5 +1,5 @@
 // What a call returns: refusal 1 by what the state holds, 2 to 5 by the registry and the lengths.
-ghost use Rattle.std.specs.Prelude.{◌≡◌, IfOk, length};
+ghost use Rattle.std.specs.Prelude.{◌≡◌, length};
 ghost use Rattle.lines.specs.Line.{kept_limit};
 ghost use Rattle.report.specs.Outcome.{answers, number_of};
 ghost use Rattle.plain.specs.Promise.{details_in, overfull};
@@ -39,23 +39,20 @@ fn is_overfull(scan: &Scan, taken: usize) -> bool
         | (taken < scan.lines as usize)
 }
 
-// Why a call is refused, 1 to 5 in this order; or its registry's index. A call has a table of `size` words, a report with room for so many entries, and a
-// piece of n bytes.
-pub fn admit<'a>(
+// Why a call is refused, 1 to 5 in this order. A call has the registry of this index, a table of `size` words, a report with room for so many entries, and
+// a piece of n bytes.
+pub fn admit(
     state: &State,
-    registry: &'a [u8],
+    index: &Index<'_>,
     size: usize,
     room: usize,
     n: usize,
-) -> Result<Index<'a>, Refusal>
-    ensures number { number_of (answers result) ≡ number_for state.now registry.now size room n }
-    ensures index { IfOk result (λ i. i ≡ registry.now) }
+) -> Result<(), Refusal>
+    ensures number { number_of (answers result) ≡ number_for state.now index.now size room n }
     ensures kept { length state.now.scan.kept ≡ kept_limit }
 {
     require(!is_overfull(&state.scan, state.taken), Refusal::BadState)?;
-    let index = Index::of(registry).ok_or(Refusal::BadRegistry)?;
-    for_table(&index, size)?;
+    for_table(index, size)?;
     require(2 + n / 2 <= room, Refusal::ShortReport)?;
-    require(n <= BYTE_LIMIT - state.taken, Refusal::TooManyBytes)?;
-    Ok(index)
+    require(n <= BYTE_LIMIT - state.taken, Refusal::TooManyBytes)
 }

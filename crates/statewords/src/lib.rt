@@ -21,6 +21,7 @@ use lines::keep::KEPT_LIMIT;
 use pieces::Scan;
 use records::{Parts, Progress, Ready};
 use state::State;
+use text::bytes::copy;
 use text::names::{DUNS_SIZE, ESI_ID_SIZE};
 use units::Unit;
 
@@ -193,9 +194,9 @@ pub fn put_state(state: &mut [u32; STATE_WORDS], given: &State)
     let numbers = number_words(scan.held, given.taken, scan.lines);
     let unit = unit_words(scan.unit);
     put_bytes(&mut state[..NUMBERS_AT], &scan.kept);
-    state[NUMBERS_AT..UNIT_AT].copy_from_slice(&numbers);
-    state[UNIT_AT..ID_AT].copy_from_slice(&unit);
+    copy(&mut state[NUMBERS_AT..UNIT_AT], &numbers);
+    copy(&mut state[UNIT_AT..ID_AT], &unit);
     put_bytes(&mut state[ID_AT..SENDER_AT], &parts.id);
     put_bytes(&mut state[SENDER_AT..WORDS_AT], &parts.sender);
-    state[WORDS_AT..].copy_from_slice(&parts.words);
+    copy(&mut state[WORDS_AT..], &parts.words);
 }

@@ -7,7 +7,7 @@ use Prim.Native.Nat.{ℕ, zero, suc, ◌+◌, ◌<◌, ◌≤◌}
 use native.Mathlib.Omega.{arith}
 use native.Mathlib.Numerals.{add-one}
 use lib.Dec.{eqb, leb}
-use lib.ListN.{length, take, drop, get_or, length-take}
+use lib.ListN.{length, take, drop, get_or, length-take, length-drop}
 use borrow.Author.Tests.{eq-eqb, ne_eqb, leb-true, leb-false, lt-leb, not-true}
 use lib.Seq.{take_all}
 use Rattle.std.specs.List.{position_or_len}
@@ -159,6 +159,12 @@ cut_at zero s h = rw (cut-head s).1
 cut_at (suc k) s h =
     let m : cut s ≡ first_field s ∷ cut (after_field s) = cut-more s (omega (arith, h)) in
     rw m (cut_at k (after_field s) (omega (arith, ap length m, h)))
+
+pub cut-less : (s : Bytes) → 1 < length (cut s) → length (cut s) ≡ suc (length (cut (after_field s)))
+cut-less s h = ap length (cut-more s h)
+
+pub after-within : (s : Bytes) → length (after_field s) ≤ length s
+after-within s = omega (arith, ap length (field_drop s), length-drop (length (first_field s) + 1) s)
 
 -- A LINE MADE OF FIELDS is cut into them again: no byte of a field is a comma.
 abbrev pub not_comma : ℕ → Bool

@@ -7,7 +7,7 @@ use Prim.Native.Nat.{ℕ, ◌+◌, ◌-◌, ◌*◌, ◌^◌, ◌<◌, ◌≤◌
 use native.Mathlib.Omega.{arith}
 use native.Mathlib.Numerals.{add-one}
 use native.Mathlib.Nat.{add-zero, pow-suc, pow-le-pow_right}
-use lib.ListN.{length, take, drop, get_or}
+use lib.ListN.{length, take, drop, get_or, length-take}
 use Rattle.std.specs.List.{position_or_len}
 use Rattle.std.proofs.lemmas.List.Recursion.{is_position_or_len}
 use Rattle.std.proofs.lemmas.List.Sums.{position_or_len_is}
@@ -44,6 +44,12 @@ run_digits (b ∷ s) = go (is_digit b) refl (run_digits s)
     go : (t : Bool) → is_digit b ≡ t → every is_digit (leading s) ≡ true → every is_digit (cond t (b ∷ leading s) []) ≡ true
     go true e h = and_both (is_digit b) (every is_digit (leading s)) e h
     go false e h = refl
+
+pub run_within : (s : Bytes) → length (leading s) ≤ length s
+run_within s = omega (arith, simp length-take at (ap length (run_take s)))
+
+pub run_stops : (s : Bytes) (w : ℕ) → w ≡ length (leading s) → (w ≡ length s → ⊥) → w < length s
+run_stops s w run h = omega (arith, run_within s)
 
 -- the run ends at the first byte that is no digit, or where the text does
 abbrev pub no_digit : ℕ → Bool

@@ -46,3 +46,11 @@ fits-tested a b = by_test (leb a b) refl
 pub or_right : (a b : Bool) → (a || b) ≡ true → a ≡ false → b ≡ true
 or_right true b h e = absurd (apart (sym e))
 or_right false b h e = h
+
+pub or_no_left : (a b : Bool) → (a || b) ≡ false → a ≡ false
+or_no_left true b h = absurd (apart (sym h))
+or_no_left false b h = refl
+
+pub or_no_right : (a b : Bool) → (a || b) ≡ false → b ≡ false
+or_no_right true b h = absurd (apart (sym h))
+or_no_right false b h = h

@@ -1,5 +1,5 @@
-// Classes of bytes, and texts compared: std's methods, in the words of the definitions that all rows cite.
-ghost use Rattle.std.specs.Prelude.{◌≡◌, Bool};
+// Classes of bytes, and texts compared: std's methods, in the words of the definitions that all rows cite. And a copy of items.
+ghost use Rattle.std.specs.Prelude.{◌≡◌, Bool, length};
 ghost use Rattle.text.specs.Byte.{is_digit, is_alnum, is_empty, every, equals, starts_with};
 
 pub fn is_digit(b: u8) -> bool
@@ -59,4 +59,15 @@ pub fn begins(s: &[u8], p: &[u8]) -> bool
     ensures { result ≡ starts_with p.now s.now }
 {
     s.starts_with(p)
+}
+
+// Puts items in the place of as many others. By a loop: `copy_from_slice` calls C's `memmove` where two places could overlap, and the static library asks
+// of its program no more than `memcpy` and `memset`.
+pub fn copy<T: Copy>(to: &mut [T], from: &[T])
+    requires { length to.old ≡ length from.now }
+    ensures { to.new ≡ from.now }
+{
+    for (i, x) in to.iter_mut().enumerate() {
+        *x = from[i];
+    }
 }

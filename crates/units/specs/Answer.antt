@@ -96,8 +96,11 @@ pub record Does (R : Rules) (step : Step) (unit : OpenUnit) (entries : List Entr
   pub tells : Tells R step.events entries before after
 
 -- a record that is refused; a stray run; a surplus row; a line of which nothing is said
+abbrev pub refused_by : ℕ → ℕ → ℕ → ℕ → ℕ → Stepped
+refused_by first verdict n meter day = record { unit = Skips; said = Some (entry_of first verdict n meter day) }
+
 abbrev pub refused_at : ℕ → Fault → ℕ → ℕ → Stepped
-refused_at first fault n day = record { unit = Skips; said = Some (entry_of first (verdict_number fault.verdict) n fault.meter day) }
+refused_at first fault n day = refused_by first (verdict_number fault.verdict) n fault.meter day
 
 abbrev pub stray_from : ℕ → Stepped
 stray_from n = record { unit = Skips; said = Some (stray_at n).entry }

@@ -10,13 +10,13 @@
 
 ghost use Rattle.std.specs.Prelude.{◌≡◌, Ok, ℕ, suc, ◌≤◌};
 ghost use Rattle.lines.specs.Answer.{line_of};
-ghost use Rattle.plain.specs.Rows.{max_details, first_row, rules_of};
+ghost use Rattle.plain.specs.Rows.{max_details, refused_with, first_row, rules_of};
 ghost use Rattle.plain.specs.Table.{load_all};
 ghost use Rattle.plain.specs.Loader.{close, settle as settles, entries_of, loads_of, step_line};
 ghost use Rattle.plain.specs.Promise.{details_in};
 ghost use Rattle.records.specs.Answer.{row_says};
 ghost use Rattle.records.specs.declared.Parts.{Parts};
-ghost use Rattle.units.specs.Answer.{unit_of, told, told_by, ended, read_by, judged_if, quiet_step, Reads, Does, refused_at, stray_from, surplus_at, quietly, HasRoom};
+ghost use Rattle.units.specs.Answer.{unit_of, told, told_by, ended, read_by, judged_if, quiet_step, Reads, Does, refused_by, refused_at, stray_from, surplus_at, quietly, HasRoom};
 
 use cells::{Address, cell_number};
 use lines::line::{Kind, Line, kind_of};
@@ -117,20 +117,27 @@ pub fn load_waiting(unit: Unit, index: &Index<'_>, parts: &Parts, table: &mut [u
 
 // ---- THE LINE IS READ
 
-// A record that began at line `first` is refused at line n.
-fn refused(first: u32, fault: Fault, n: u32, day: u32) -> Stepped
-    ensures { result ≡ refused_at first fault n day }
+// A record that began at line `first` is refused at line n, by a number that need be no verdict's.
+fn refused_by(first: u32, verdict: u32, n: u32, meter: u32, day: u32) -> Stepped
+    ensures { result ≡ refused_by first verdict n meter day }
 {
     Stepped {
         unit: Unit::Skips,
         said: Some(Entry {
             first,
-            verdict: u32::from(fault.verdict),
+            verdict,
             at: n,
-            meter: fault.meter,
+            meter,
             day,
         }),
     }
+}
+
+// The same by a verdict.
+fn refused(first: u32, fault: Fault, n: u32, day: u32) -> Stepped
+    ensures { result ≡ refused_at first fault n day }
+{
+    refused_by(first, u32::from(fault.verdict), n, fault.meter, day)
 }
 
 // The unit behind a row at line n, which began at line `first`.
@@ -151,6 +158,13 @@ pub fn settle(first: u32, n: u32, row: Result<After, Fault>, day: u32) -> Steppe
         Err(fault) => refused(first, fault, n, day),
         Ok(after) => quiet(unit_after(first, n, after)),
     }
+}
+
+// The same of a row that is refused by any number, verdict or not.
+pub fn settle_refused(first: u32, n: u32, verdict: u32, meter: u32, day: u32) -> Stepped
+    ensures { (r : Parts) → Reads (settles first n (refused_with verdict meter day)) (unit_of result.unit r) (told result.said) }
+{
+    refused_by(first, verdict, n, meter, day)
 }
 
 // A stray run begins at line n. It has no day: 0, as in the entry.

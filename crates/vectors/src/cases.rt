@@ -1,6 +1,6 @@
 // The cases of a file, one after the other: each is a cut, a registry and a file to load. The cut is a number of four bytes, the lowest first. Registry
-// and file have such a number before them, their size.
-ghost use Rattle.std.specs.Prelude.{◌<◌, length, IfSome};
+// and file have such a number before them, their size. A case that is cut off goes as far as its bytes do: a number of fewer bytes is 0.
+ghost use Rattle.std.specs.Prelude.{◌<◌, ◌≤◌, length};
 ghost use Rattle.std.specs.Iterator.{at_most};
 
 // A registry, and a file that is fed in pieces of so many bytes.
@@ -12,22 +12,25 @@ pub struct Case<'a> {
 }
 
 // A number, and what stands behind it.
-fn number(bytes: &[u8]) -> Option<(usize, &[u8])>
-    ensures { IfSome result (λ p. length p.1.now < length bytes.now) }
+fn number(bytes: &[u8]) -> (usize, &[u8])
+    ensures within { length result.1.now ≤ length bytes.now }
+    ensures moves { 0 < length bytes.now → length result.1.now < length bytes.now }
 {
-    let (number, behind) = bytes.split_first_chunk()?;
-    Some((u32::from_le_bytes(*number) as usize, behind))
+    match bytes.split_first_chunk() {
+        Some((number, behind)) => (u32::from_le_bytes(*number) as usize, behind),
+        None => (0, &bytes[bytes.len()..]),
+    }
 }
 
-// As many bytes as the number before them says, and what stands behind them.
-fn sized(bytes: &[u8]) -> Option<(&[u8], &[u8])>
-    ensures { IfSome result (λ p. length p.1.now < length bytes.now) }
+// As many bytes as the number before them says, or as there are, and what stands behind them.
+fn sized(bytes: &[u8]) -> (&[u8], &[u8])
+    ensures { length result.1.now ≤ length bytes.now }
 {
-    let (size, behind) = number(bytes)?;
-    behind.split_at_checked(size)
+    let (size, behind) = number(bytes);
+    behind.split_at(size.min(behind.len()))
 }
 
-// The cases that are left. One that is cut off ends them.
+// The cases that are left.
 #[derive(Drop)]
 pub struct Cases<'a>(pub &'a [u8]);
 
@@ -38,9 +41,12 @@ impl<'a> Iterator for Cases<'a> {
     ghost remaining = { λ s. at_most (length s.0.now) };
 
     fn next(&mut self) -> Option<Case<'a>> {
-        let (cut, rest) = number(self.0)?;
-        let (registry, rest) = sized(rest)?;
-        let (file, rest) = sized(rest)?;
+        if self.0.is_empty() {
+            return None;
+        }
+        let (cut, rest) = number(self.0);
+        let (registry, rest) = sized(rest);
+        let (file, rest) = sized(rest);
         self.0 = rest;
         Some(Case {
             cut,

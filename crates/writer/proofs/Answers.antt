@@ -18,10 +18,10 @@ use Rattle.report.specs.Outcome.{passed, require, ◌>>◌}
 use Rattle.report.specs.Refusal.{short_output}
 use Rattle.padded.specs.Padding.{unpad}
 use Rattle.padded.proofs.Unpad.{unpad-within}
-use Rattle.registry.specs.Registry.{is_registry, window_is}
+use Rattle.registry.specs.Registry.{window_is}
 use Rattle.registry.specs.Index.{meter_at}
 use Rattle.registry.specs.declared.entry.Window.{Window}
-use Rattle.registry.proofs.Laws.{Formed, meter-formed, sound-window}
+use Rattle.registry.proofs.Laws.{Formed, meter-formed, window-last}
 use Rattle.cell.specs.Layout.{Words}
 use Rattle.reads.proofs.SoundParts.{SoundParts, sound-parts}
 use Rattle.cells.specs.Sound.{day_intervals, sound_cell}
@@ -43,13 +43,13 @@ behind_none x e h = rw e (omega arith)
 
 -- a cell's record, by what an index tells of its registry
 pub cell-text : {reg : Bytes} {m d : ℕ} {descriptor : Bytes} {w : Words} {window : Window} {id id' owner owner' : Bytes} {date : ℕ} (c : ℕ)
-    → Writable reg m d descriptor w → (window ≡ window_is reg) × (is_registry reg ≡ true) → id ≡ unpad id' → id' ≡ (meter_at reg m).id
+    → Writable reg m d descriptor w → window ≡ window_is reg → id ≡ unpad id' → id' ≡ (meter_at reg m).id
     → owner ≡ unpad owner' → owner' ≡ (meter_at reg m).owner → date ≡ date_is (window.first + d)
     → record_text id owner c date descriptor w ≡ cell_text reg m c d descriptor w
 unfolding cell_text
 cell-text {reg} {m} {d} c asked told e ei f eo ed =
-    let last : (window_is reg).first + d ≤ last_day = omega (arith, asked.day, (sound-window reg told.1).ends) in
-    rw (e, ei, f, eo, ed, told.0, date_is_lem ((window_is reg).first + d) last)
+    let last : (window_is reg).first + d ≤ last_day = omega (arith, asked.day, window-last reg) in
+    rw (e, ei, f, eo, ed, told, date_is_lem ((window_is reg).first + d) last)
 
 -- how long its meter's identifiers are
 pub meter-short : {reg : Bytes} {m d : ℕ} {descriptor : Bytes} {w : Words} {id id' owner owner' : Bytes} → Writable reg m d descriptor w

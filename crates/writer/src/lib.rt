@@ -33,6 +33,7 @@ use report::require;
 use rowtext::detail::put_detail;
 use rowtext::rows::{put_four, put_one, put_thirty, put_three, put_two};
 use std::array::from_fn;
+use text::bytes::copy;
 use text::names::is_descriptor;
 
 // The longest record.
@@ -88,7 +89,7 @@ fn put_out(output: &mut [u8], bytes: &[u8]) -> Result<usize, Refusal>
 {
     let n = bytes.len();
     require(n <= output.len(), Refusal::ShortOutput)?;
-    output[..n].copy_from_slice(bytes);
+    copy(&mut output[..n], bytes);
     Ok(n)
 }
 
@@ -112,6 +113,23 @@ fn write_cell(
     put_out(output, text.bytes())
 }
 
+// What `write` answers, by the registry's index. A call of its own, so that the index stays where it was made.
+#[inline(never)]
+fn write_from(
+    index: &Index<'_>,
+    table: &[u32],
+    at: Address,
+    descriptor: &[u8],
+    output: &mut [u8],
+) -> Result<usize, Refusal>
+    ensures answer { answers result ≡ length_of (writes index.now table.now at.meter at.channel at.day descriptor.now output.old) }
+    ensures bytes { output.new ≡ output_with output.old (writes index.now table.now at.meter at.channel at.day descriptor.now output.old) }
+{
+    let words = find_sound(index, table, at)?;
+    require(is_descriptor(descriptor), Refusal::BadDescriptor)?;
+    write_cell(index, at, descriptor, words, output)
+}
+
 pub fn write(
     registry: &[u8],
     table: &[u32],
@@ -123,8 +141,6 @@ pub fn write(
     ensures bytes { output.new ≡ output_with output.old (writes registry.now table.now at.meter at.channel at.day descriptor.now output.old) }
     ensures words { Fits table.now }
 {
-    let index = Index::of(registry).ok_or(Refusal::BadRegistry)?;
-    let words = find_sound(&index, table, at)?;
-    require(is_descriptor(descriptor), Refusal::BadDescriptor)?;
-    write_cell(&index, at, descriptor, words, output)
+    let index = Index::of(registry);
+    write_from(&index, table, at, descriptor, output)
 }

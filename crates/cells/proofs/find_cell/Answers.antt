@@ -15,14 +15,14 @@ pub returns-in_err-require : goal.returns-in_err-require
 unfolding cell_for
 returns-in_err-require c =
     next-exit refusal_number _ _ c.from_residual-in_err-require.ensures.1 _
-    ∙ rw (← c.in_ok-for_table.ensures, address-tested _ c.window-days.ensures.1 _ _ c.meters-meters.ensures c.window-days.ensures.0 c.args.at.meter c.args.at.channel c.args.at.day, ← c.in_err-require.ensures)
+    ∙ rw (← c.in_ok-for_table.ensures, address-tested _ _ _ c.meters-meters.ensures c.window-days.ensures c.args.at.meter c.args.at.channel c.args.at.day, ← c.in_err-require.ensures)
 
 pub cell_number-requires-clause-sizes : goal.cell_number-requires-clause-sizes
-cell_number-requires-clause-sizes c = index-sizes _ c.window-days.ensures.1 _ _ c.meters-meters.ensures c.window-days.ensures.0
+cell_number-requires-clause-sizes c = index-sizes _ _ _ c.meters-meters.ensures c.window-days.ensures
 
 pub cell_at-requires : goal.cell_at-requires
-cell_at-requires c = words-within _ c.window-days.ensures.1 _ _ c.meters-meters.ensures c.window-days.ensures.0 _ c.in_ok-for_table.ensures _ c.cell_number.ensures.1
+cell_at-requires c = words-within _ _ _ c.meters-meters.ensures c.window-days.ensures _ c.in_ok-for_table.ensures _ c.cell_number.ensures.1
 
 pub returns : goal.returns
 unfolding cell_for
-returns c = rw (c.cell_at.ensures, ← c.in_ok-for_table.ensures, address-tested _ c.window-days.ensures.1 _ _ c.meters-meters.ensures c.window-days.ensures.0 c.args.at.meter c.args.at.channel c.args.at.day, ← c.in_ok-require.ensures, c.cell_number.ensures.0, c.meters-meters.ensures, c.window-days.ensures.0)
+returns c = rw (c.cell_at.ensures, ← c.in_ok-for_table.ensures, address-tested _ _ _ c.meters-meters.ensures c.window-days.ensures c.args.at.meter c.args.at.channel c.args.at.day, ← c.in_ok-require.ensures, c.cell_number.ensures.0, c.meters-meters.ensures, c.window-days.ensures)

@@ -17,4 +17,4 @@ returns-in_err-flag_checks c =
 
 pub returns : goal.returns
 unfolding meter_checks
-returns c = rw (← c.is_owned.ensures, ← c.in_ok-require.ensures, ← c.flags.ensures, ← c.in_ok-flag_checks.ensures, ← c.window.ensures.0) c.window_day.ensures
+returns c = rw (← c.is_owned.ensures, ← c.in_ok-require.ensures, ← c.flags.ensures, ← c.in_ok-flag_checks.ensures, ← c.window.ensures) c.window_day.ensures

@@ -8,14 +8,14 @@ use Rattle.state.proofs.Refusals.{few_bytes}
 use Rattle.loader.proofs.Batching.{refusal-keeps, begins, few, fits, steps, stops}
 use Rattle.loader.proofs.feed.Goals as goal
 
-pub returns-in_err-index : goal.returns-in_err-index
-returns-in_err-index g c = refusal-keeps _ _ _ _ _ _ _ _ _ c.from_residual.ensures.1 (rw (← c.room.ensures) c.in_err-index.ensures.number)
+pub returns-in_err-admit : goal.returns-in_err-admit
+returns-in_err-admit g c = refusal-keeps _ _ _ _ _ _ _ _ _ c.from_residual.ensures.1 (rw (← c.of.ensures, ← c.room.ensures) c.in_err-admit.ensures.number)
 
 pub overflow_add-state : goal.overflow_add-state
-overflow_add-state g c = omega (arith, few_bytes _ _ _ _ (feed c.args.piece.now) c.in_ok-index.ensures.number)
+overflow_add-state g c = omega (arith, few_bytes _ _ _ _ (feed c.args.piece.now) c.in_ok-admit.ensures.number)
 
 pub loop-at-init : goal.loop-at-init
-loop-at-init g c = (begins _ _ _ _ _ _ _ (rw (← c.room.ensures) c.in_ok-index.ensures.number) c.admit.ensures.kept _ refl, c.in_ok-index.ensures.index)
+loop-at-init g c = (begins _ _ _ _ _ _ _ (rw (← c.of.ensures, ← c.room.ensures) c.in_ok-admit.ensures.number) c.admit.ensures.kept _ refl, c.of.ensures)
 
 pub put-requires : goal.put-requires
 put-requires g c = fits _ _ _ _ _ _ _ _ _ _ _ _ c.loop-at.invariant.0 _ (record { scan = c.read_lines-next.new.scan; taken = c.loop-at.state.taken }) _ _ (rw c.loop-at.invariant.1 at c.read_lines-next.ensures.ran)

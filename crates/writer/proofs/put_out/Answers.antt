@@ -15,4 +15,4 @@ pub returns-clause-answer : goal.returns-clause-answer
 returns-clause-answer c = rw (fitting-tested c.args.output.now c.args.bytes.now, ← c.in_ok-require.ensures)
 
 pub returns-clause-bytes : goal.returns-clause-bytes
-returns-clause-bytes c = rw (fitting-tested c.args.output.now c.args.bytes.now, ← c.in_ok-require.ensures, c.copy_from_slice.ensures.after)
+returns-clause-bytes c = rw (fitting-tested c.args.output.now c.args.bytes.now, ← c.in_ok-require.ensures, c.copy.ensures)

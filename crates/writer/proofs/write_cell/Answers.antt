@@ -2,15 +2,14 @@
 -- Assumes nothing.
 use mathlib.Core.Path.{ap}
 use native.Mathlib.Omega.{arith}
-use Rattle.registry.proofs.Laws.{sound-window}
+use Rattle.registry.proofs.Laws.{window-most, window-last}
 use Rattle.writer.proofs.Records.{record-most}
 use Rattle.writer.proofs.Answers.{behind_none, cell-text, meter-short}
 use Rattle.writer.proofs.write_cell.Goals as goal
 
 pub overflow_add-window : goal.overflow_add-window
 overflow_add-window c =
-    let window = sound-window _ c.window.ensures.1 in
-    omega (arith, c.requires.day, window.few, window.ends, ap (λ w. w.first) c.window.ensures.0, ap (λ w. w.days) c.window.ensures.0)
+    omega (arith, c.requires.day, window-most c.args.index.now, window-last c.args.index.now, ap (λ w. w.first) c.window.ensures, ap (λ w. w.days) c.window.ensures)
 
 pub put_record-requires : goal.put_record-requires
 put_record-requires c =

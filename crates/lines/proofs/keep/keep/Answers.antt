@@ -13,7 +13,7 @@ returns c =
     let long : length kept ≡ kept_limit = search rules in
     let n : c.args.held + c.min.result - c.args.held ≡ c.min.result = omega arith in (
       take-put_mid c.args.held _ kept _ _ (omega arith) (omega arith)
-          ∙ ap (λ r. take c.args.held kept ++ r) (c.copy_from_slice.ensures.after ∙ ap (λ i. take i c.args.part.now) (n ∙ c.min.ensures))
+          ∙ ap (λ r. take c.args.held kept ++ r) (c.copy.ensures ∙ ap (λ i. take i c.args.part.now) (n ∙ c.min.ensures))
           ∙ kept_part kept c.args.part.now c.args.held long c.requires,
       search rules,
       same_len_mid c.args.held _ kept _ (search rules) ∙ long,

@@ -4,4 +4,4 @@ use Rattle.padded.proofs.Put.{padded_put}
 use Rattle.padded.proofs.padding.put_padded.Goals as goal
 
 pub returns : goal.returns
-returns c = padded_put _ _ _ _ c.requires c.copy_from_slice.ensures.after (c.fill.ensures.after (λ y e. e))
+returns c = padded_put _ _ _ _ c.requires c.copy.ensures (c.fill.ensures.after (λ y e. e))

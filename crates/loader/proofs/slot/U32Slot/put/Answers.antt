@@ -15,15 +15,15 @@ overflow_add-at c = omega (arith, c.requires, c.words-words.ensures.1, entries-c
 pub offset_bounds-report-at : goal.offset_bounds-report-at
 offset_bounds-report-at c = omega (arith, c.requires, c.words-words.ensures.1, entries-count (places_in c.args.report.now) c.args.report.now)
 
-pub slice_bounds-copy_from_slice-end : goal.slice_bounds-copy_from_slice-end
-slice_bounds-copy_from_slice-end c = omega (arith, c.requires, c.words-words.ensures.1, entries-count (places_in c.args.report.now) c.args.report.now)
+pub slice_bounds-copy-end : goal.slice_bounds-copy-end
+slice_bounds-copy-end c = omega (arith, c.requires, c.words-words.ensures.1, entries-count (places_in c.args.report.now) c.args.report.now)
 
 pub returns-clause-entered : goal.returns-clause-entered
 returns-clause-entered c =
-    rw c.copy_from_slice.ensures.after
+    rw c.copy.ensures
     (copied-entries _ c.words-words.result.now _ c.args.from _ c.requires c.words-words.ensures.0 c.words-words.ensures.1 (omega arith))
 
 pub returns-clause-behind : goal.returns-clause-behind
 returns-clause-behind c =
-    rw c.copy_from_slice.ensures.after
+    rw c.copy.ensures
     (copied-behind _ c.words-words.result.now _ c.args.from _ c.requires c.words-words.ensures.0 c.words-words.ensures.1 (omega arith))

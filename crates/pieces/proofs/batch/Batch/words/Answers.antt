@@ -13,4 +13,4 @@ pub returns : goal.returns
 returns c =
     let wide : length c.self.inside.words ≡ batch_words = search rules in
     rw (← c.self.view_is, entries-count c.self.inside.count c.self.inside.words)
-    (entries-take c.self.inside.count c.self.inside.words, length-take-le _ c.self.inside.words (omega (arith, c.self.invariant, wide)))
+    (entries-take c.self.inside.count c.self.inside.words, length-take-le _ c.self.inside.words (omega (arith, c.self.invariant.0, wide)))

@@ -1,0 +1,6 @@
+-- What the loop of `text::bytes::copy` keeps.
+use Rattle.std.proofs.Common.{◌≡◌, take}
+use Rattle.text.proofs.bytes.copy.Given as goal
+
+abbrev pub invariant-loop-i : goal.invariant-loop-i
+invariant-loop-i g l = take l.i l.to ≡ take l.i l.from
