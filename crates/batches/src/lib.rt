@@ -30,9 +30,9 @@ fn lines_in(lines: u32, held: usize) -> u32
 
 // The end of the file: its last line, if any, and the unit that is open. What is left of the scan is of no use.
 pub fn end_file(scan: &mut Scan, index: &Index<'_>, table: &mut [u32]) -> Batch
-    requires room { HasRoom index.now table.old }
+    requires room { HasRoom index.now.registry.now table.old }
     requires holds { Holds scan.old 0 }
-    ensures { Last index.now (scan_of scan.old) result table.old table.new }
+    ensures { Last index.now.registry.now (scan_of scan.old) result table.old table.new }
 {
     // where none is held, the line is empty, and does nothing
     let line = Line {

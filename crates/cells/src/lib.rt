@@ -49,7 +49,7 @@ pub fn cell_number(meters: usize, days: usize, at: Address) -> usize
 
 // 2 and 3: whether a registry breaks no rule, and a table of so many words has room for its cells.
 pub fn for_table(index: &Index<'_>, size: usize) -> Result<(), Refusal>
-    ensures { answers result ≡ for_table (is_registry index.now) (cells_of index.now) size }
+    ensures { answers result ≡ for_table (is_registry index.now.registry.now) (cells_of index.now.registry.now) size }
 {
     require(index.is_sound(), Refusal::BadRegistry)?;
     let cells = cell_count(index.meters(), index.window().days as usize);
@@ -58,7 +58,7 @@ pub fn for_table(index: &Index<'_>, size: usize) -> Result<(), Refusal>
 
 // 6: the cell at an address. Index, table and address go on through 7 and 8, each of which calls the one before; a struct of them would be made for one call.
 pub fn find_cell<'a>(index: &Index<'_>, table: &'a [u32], at: Address) -> Result<&'a Words, Refusal>
-    ensures { cell_says result ≡ cell_for index.now table.now at.meter at.channel at.day }
+    ensures { cell_says result ≡ cell_for index.now.registry.now table.now at.meter at.channel at.day }
 {
     for_table(index, table.len())?;
     let meters = index.meters();
@@ -70,7 +70,7 @@ pub fn find_cell<'a>(index: &Index<'_>, table: &'a [u32], at: Address) -> Result
 
 // 7: and it holds a read.
 pub fn find_held<'a>(index: &Index<'_>, table: &'a [u32], at: Address) -> Result<&'a Words, Refusal>
-    ensures { cell_says result ≡ held_cell index.now table.now at.meter at.channel at.day }
+    ensures { cell_says result ≡ held_cell index.now.registry.now table.now at.meter at.channel at.day }
 {
     let words = find_cell(index, table, at)?;
     require(!holds_none(words), Refusal::EmptyCell)?;
@@ -83,7 +83,7 @@ pub fn find_sound<'a>(
     table: &'a [u32],
     at: Address,
 ) -> Result<&'a Words, Refusal>
-    ensures { cell_says result ≡ sound_cell index.now table.now at.meter at.channel at.day }
+    ensures { cell_says result ≡ sound_cell index.now.registry.now table.now at.meter at.channel at.day }
 {
     let words = find_held(index, table, at)?;
     let intervals = intervals_of(index.window().first + at.day as u32);

@@ -61,8 +61,8 @@ fn meter_checks(
     sender: &[u8; DUNS_SIZE],
     date: u32,
 ) -> Result<usize, Verdict>
-    requires { meter < length (meters_of index.now) }
-    ensures { says result ≡ meter_checks (window_is index.now) (meter_at index.now meter) sender.now date }
+    requires { meter < length (meters_of index.now.registry.now) }
+    ensures { says result ≡ meter_checks (window_is index.now.registry.now) (meter_at index.now.registry.now meter) sender.now date }
 {
     require(index.is_owned(meter, sender), Verdict::NotOwner)?;
     flag_checks(index.flags(meter))?;
@@ -76,7 +76,7 @@ pub fn judge(
     sender: &[u8; DUNS_SIZE],
     date: u32,
 ) -> Result<Cleared, Fault>
-    ensures { judged_says result ≡ judged index.now id.now sender.now date }
+    ensures { judged_says result ≡ judged index.now.registry.now id.now sender.now date }
 {
     let meter = index.find(id).ok_or(Verdict::UnknownMeter)?;
     let number = (meter + 1) as u32;

@@ -40,10 +40,10 @@ pub fn next_line(
     index: &Index<'_>,
     table: &mut [u32],
 ) -> Moved
-    requires room { HasRoom index.now table.old }
+    requires room { HasRoom index.now.registry.now table.old }
     requires holds { Holds scan.old (length piece.now - at) }
     requires within { at ≤ length piece.now }
-    ensures { Moves index.now (scan_of scan.old) piece.now at result scan.new table.old table.new }
+    ensures { Moves index.now.registry.now (scan_of scan.old) piece.now at result scan.new table.old table.new }
 {
     let Some(end) = line_end(piece, at) else {
         scan.held = keep(&mut scan.kept, scan.held, &piece[at..]);

@@ -24,7 +24,7 @@ fn goes_on(at: usize, len: usize, count: usize) -> bool
 
 // A record that waits leaves its meter as the one to try first: files are mostly in order of their meters, so that the next record has it too.
 fn leave_hint(index: &mut Index<'_>, unit: Unit)
-    ensures { index.new ≡ index.old }
+    ensures { index.new.registry.now ≡ index.old.registry.now }
 {
     if let Unit::Waits(_, _, ready) = unit {
         index.try_first(usize::from(ready.meter));
@@ -39,11 +39,11 @@ pub fn read_lines(
     index: &mut Index<'_>,
     table: &mut [u32],
 ) -> (usize, Batch)
-    requires room { HasRoom index.old table.old }
+    requires room { HasRoom index.old.registry.now table.old }
     requires holds { Holds scan.old (length piece.now - at) }
     requires within { at ≤ length piece.now }
-    ensures index { index.new ≡ index.old }
-    ensures ran { Runs index.old (scan_of scan.old) piece.now at result.0 scan.new table.old table.new result.1 }
+    ensures index { index.new.registry.now ≡ index.old.registry.now }
+    ensures ran { Runs index.old.registry.now (scan_of scan.old) piece.now at result.0 scan.new table.old table.new result.1 }
 {
     let mut batch = Batch::new();
     let mut e = at;

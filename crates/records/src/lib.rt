@@ -162,7 +162,7 @@ pub fn row_header(p: Progress, line: Line<'_>, parts: &mut Parts) -> Result<Prog
 
 // All rows are in: the registry checks.
 pub fn check(p: Progress, index: &Index<'_>, parts: &Parts) -> Result<Ready, Fault>
-    ensures { checked_says result p.day parts.now ≡ checked index.now (rows_of p parts.now) }
+    ensures { checked_says result p.day parts.now ≡ checked index.now.registry.now (rows_of p parts.now) }
 {
     let cleared = judge(index, &parts.id, &parts.sender, p.day)?;
     Ok(Ready {
@@ -187,7 +187,7 @@ pub fn put_intervals(words: &mut Words, k: u32, row: &Row)
 // Detail row k is read and its intervals are put: it was the last, or another is due.
 fn after_detail(p: Progress, k: u32, index: &Index<'_>, parts: &Parts) -> Result<After, Fault>
     requires { Few p × (k < max_details) }
-    ensures { row_says result p.day parts.now ≡ after_detail index.now k (rows_of (one_more p) parts.now) }
+    ensures { row_says result p.day parts.now ≡ after_detail index.now.registry.now k (rows_of (one_more p) parts.now) }
 {
     if k + 1 == p.due {
         return Ok(After::Complete(check(p, index, parts)?));
@@ -203,7 +203,7 @@ fn row_detail(
     parts: &mut Parts,
 ) -> Result<After, Fault>
     requires { Few p × (header_rows ≤ p.read) }
-    ensures says { row_says result p.day parts.new ≡ next_row index.now (rows_of p parts.old) (line_of line.entry) }
+    ensures says { row_says result p.day parts.new ≡ next_row index.now.registry.now (rows_of p parts.old) (line_of line.entry) }
     ensures id { parts.new.id ≡ parts.old.id }
 {
     let k = p.read - HEADER_ROWS;
@@ -221,7 +221,7 @@ pub fn row_next(
     parts: &mut Parts,
 ) -> Result<After, Fault>
     requires { Few p }
-    ensures says { row_says result p.day parts.new ≡ next_row index.now (rows_of p parts.old) (line_of line.entry) }
+    ensures says { row_says result p.day parts.new ≡ next_row index.now.registry.now (rows_of p parts.old) (line_of line.entry) }
     ensures id { parts.new.id ≡ parts.old.id }
 {
     if p.read < HEADER_ROWS {

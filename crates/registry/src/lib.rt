@@ -6,7 +6,7 @@
 //     index.try_first(meter);                        // the next one is likely the same
 //     index.flags(meter) ..                          // id_of, owner_of and is_owned tell of it too
 //
-// In a clause an index is its registry's bytes: it holds them, and what else it holds of them is always true.
+// An index holds its registry, and what else it holds of it is always true (`holds`).
 //
 // For whoever changes it: the rules are specs/Entry.antt (one entry) and specs/Registry.antt (their order), by kind and size; the longest
 // window is `MAX_DAYS`. Owners are unlimited and a meter's owner is kept with the meter, so a registry may be of any length.
@@ -18,14 +18,13 @@ ghost use Rattle.text.specs.Identifier.{esi_id_size};
 ghost use Rattle.padded.specs.Order.{below};
 ghost use Rattle.registry.specs.Entry.{owner_size, meter_size};
 ghost use Rattle.registry.specs.Registry.{in_order, is_registry, meters_of, window_is};
-ghost use Rattle.registry.specs.Index.{bytes_at, seen_at, meter_at, find_meter};
+ghost use Rattle.registry.specs.Index.{Indexes, bytes_at, seen_at, meter_at, find_meter};
 
 pub mod entry;
 
 use entry::{Kind, METER_SIZE, OWNER_SIZE, WINDOW_SIZE, Window, kind_at, read_start, text_at};
 use padded::order::compare;
 use std::cmp::Ordering;
-use std::marker::Model;
 use text::bytes::same;
 use text::names::ESI_ID_SIZE;
 
@@ -41,26 +40,15 @@ pub struct Place {
 
 // A registry, whether it breaks no rule, its window, and the places of its meters. A fixed array with a count, since nothing here is on a heap. The hint
 // is the meter that `find` tries first; any number may be one.
-#[derive(Clone, Drop)]
+#[derive(Clone, Copy)]
 pub struct Index<'a> {
-    registry: &'a [u8],
+    pub registry: &'a [u8],
     sound: bool,
     window: Window,
     count: usize,
     places: [Place; MAX_METERS],
     hint: usize,
-}
-
-impl<'a> Model for Index<'a> {
-    ghost use Rattle.std.specs.Prelude.{ℕ, List};
-
-    ghost Value = { List ℕ };
-
-    ghost use Rattle.registry.specs.Index.{Indexes};
-
-    ghost view = { λ i. i.registry.now };
-
-    ghost invariant = { λ i. Indexes i.registry.now i.sound i.window i.count i.places };
+    ghost holds: { Indexes registry.now sound window count places },
 }
 
 // Whether the meter at a place comes behind the last one, by their ESI IDs.
@@ -94,7 +82,7 @@ fn in_order(
 // The index of a registry that breaks a rule: it has no window and no meter.
 fn broken<'a>(registry: &'a [u8]) -> Index<'a>
     requires { is_registry registry.now ≡ false }
-    ensures { result ≡ registry.now }
+    ensures { result.registry.now ≡ registry.now }
 {
     Index {
         registry,
@@ -109,7 +97,7 @@ fn broken<'a>(registry: &'a [u8]) -> Index<'a>
 impl<'a> Index<'a> {
     // The index of any registry. It is given by itself, and not as an Option or a Result: of these a call moves the whole index.
     pub fn of(registry: &'a [u8]) -> Index<'a>
-        ensures { result ≡ registry.now }
+        ensures { result.registry.now ≡ registry.now }
     {
         let Some(window) = read_start(registry) else {
             return broken(registry);
@@ -154,20 +142,20 @@ impl<'a> Index<'a> {
 
     // Whether the registry breaks no rule.
     pub fn is_sound(&self) -> bool
-        ensures { result ≡ is_registry self.now }
+        ensures { result ≡ is_registry self.now.registry.now }
     {
         self.sound
     }
 
     pub fn window(&self) -> Window
-        ensures { result ≡ window_is self.now }
+        ensures { result ≡ window_is self.now.registry.now }
     {
         self.window
     }
 
     // How many meters the registry has.
     pub fn meters(&self) -> usize
-        ensures { result ≡ length (meters_of self.now) }
+        ensures { result ≡ length (meters_of self.now.registry.now) }
     {
         self.count
     }
@@ -175,7 +163,7 @@ impl<'a> Index<'a> {
     // The meter with an ESI ID, found by halves. By hand: a closure for `binary_search_by` must be callable at any place, and only an
     // index's own places are known to be inside its registry.
     fn search(&self, id: &[u8; ESI_ID_SIZE]) -> Option<usize>
-        ensures { result ≡ find_meter id.now (meters_of self.now) }
+        ensures { result ≡ find_meter id.now (meters_of self.now.registry.now) }
     {
         let mut low: usize = 0;
         let mut high: usize = self.count;
@@ -192,7 +180,7 @@ impl<'a> Index<'a> {
 
     // The meter with this ESI ID, padded. Where the hint is right, there is no search.
     pub fn find(&self, id: &[u8; ESI_ID_SIZE]) -> Option<usize>
-        ensures { result ≡ find_meter id.now (meters_of self.now) }
+        ensures { result ≡ find_meter id.now (meters_of self.now.registry.now) }
     {
         if self.hint < self.count {
             if same(self.id_of(self.hint), id) {
@@ -204,7 +192,7 @@ impl<'a> Index<'a> {
 
     // A meter to try first from now on. It changes nothing of what is found.
     pub fn try_first(&mut self, meter: usize)
-        ensures { self.new ≡ self.old }
+        ensures { self.new.registry.now ≡ self.old.registry.now }
     {
         self.hint = meter;
     }
@@ -213,32 +201,32 @@ impl<'a> Index<'a> {
 
     // A meter's ESI ID, padded.
     pub fn id_of(&self, meter: usize) -> &'a [u8; ESI_ID_SIZE]
-        requires { meter < length (meters_of self.now) }
-        ensures { result.now ≡ (meter_at self.now meter).id }
+        requires { meter < length (meters_of self.now.registry.now) }
+        ensures { result.now ≡ (meter_at self.now.registry.now meter).id }
     {
         text_at(self.registry, self.places[meter].meter)
     }
 
     // Its owner's DUNS number, padded.
     pub fn owner_of(&self, meter: usize) -> &'a [u8; OWNER_SIZE]
-        requires { meter < length (meters_of self.now) }
-        ensures { result.now ≡ (meter_at self.now meter).owner }
+        requires { meter < length (meters_of self.now.registry.now) }
+        ensures { result.now ≡ (meter_at self.now.registry.now meter).owner }
     {
         text_at(self.registry, self.places[meter].owner)
     }
 
     // The sum of a meter's flags.
     pub fn flags(&self, meter: usize) -> u8
-        requires { meter < length (meters_of self.now) }
-        ensures { result ≡ (meter_at self.now meter).flags }
+        requires { meter < length (meters_of self.now.registry.now) }
+        ensures { result ≡ (meter_at self.now.registry.now meter).flags }
     {
         self.registry[self.places[meter].meter + METER_SIZE]
     }
 
     // Whether a meter belongs to this owner, padded.
     pub fn is_owned(&self, meter: usize, owner: &[u8; OWNER_SIZE]) -> bool
-        requires { meter < length (meters_of self.now) }
-        ensures { result ≡ equals (meter_at self.now meter).owner owner.now }
+        requires { meter < length (meters_of self.now.registry.now) }
+        ensures { result ≡ equals (meter_at self.now.registry.now meter).owner owner.now }
     {
         same(self.owner_of(meter), owner)
     }

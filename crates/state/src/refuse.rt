@@ -48,7 +48,7 @@ pub fn admit(
     room: usize,
     n: usize,
 ) -> Result<(), Refusal>
-    ensures number { number_of (answers result) ≡ number_for state.now index.now size room n }
+    ensures number { number_of (answers result) ≡ number_for state.now index.now.registry.now size room n }
     ensures kept { length state.now.scan.kept ≡ kept_limit }
 {
     require(!is_overfull(&state.scan, state.taken), Refusal::BadState)?;

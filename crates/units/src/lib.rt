@@ -95,8 +95,8 @@ pub fn closing(unit: Unit, n: u32) -> Option<Entry>
 
 // Loads the read of a unit that ends, if it waited. A state that comes from no calls may name a cell that the registry has not: nothing is loaded then.
 pub fn load_waiting(unit: Unit, index: &Index<'_>, parts: &Parts, table: &mut [u32])
-    requires { HasRoom index.now table.old }
-    ensures { (n : ℕ) → table.new ≡ load_all (rules_of index.now) table.old (loads_of (close n (unit_of unit parts.now))) }
+    requires { HasRoom index.now.registry.now table.old }
+    ensures { (n : ℕ) → table.new ≡ load_all (rules_of index.now.registry.now) table.old (loads_of (close n (unit_of unit parts.now))) }
 {
     let Unit::Waits(_, _, ready) = unit else {
         return;
@@ -211,7 +211,7 @@ fn step(
     parts: &mut Parts,
 ) -> Stepped
     requires { details_in (unit_of unit parts.old) ≤ max_details }
-    ensures { Reads (read_by (rules_of index.now) kind n (line_of line.entry) (unit_of unit parts.old)) (unit_of result.unit parts.new) (told result.said) }
+    ensures { Reads (read_by (rules_of index.now.registry.now) kind n (line_of line.entry) (unit_of unit parts.old)) (unit_of result.unit parts.new) (told result.said) }
 {
     match kind {
         Kind::Empty => quiet(unit),
@@ -233,7 +233,7 @@ fn step(
 
 // All rows of a record are in, the last of them at line n, if `all` says so: the registry checks. What holds of any other unit is left.
 pub fn judged(unit: Unit, all: bool, n: u32, index: &Index<'_>, parts: &Parts) -> Stepped
-    ensures { Reads (judged_if all index.now n (unit_of unit parts.now)) (unit_of result.unit parts.now) (told result.said) }
+    ensures { Reads (judged_if all index.now.registry.now n (unit_of unit parts.now)) (unit_of result.unit parts.now) (told result.said) }
 {
     if !all {
         return quiet(unit);
@@ -254,9 +254,9 @@ pub fn read_line(
     parts: &mut Parts,
     table: &mut [u32],
 ) -> LineRead
-    requires room { HasRoom index.now table.old }
+    requires room { HasRoom index.now.registry.now table.old }
     requires details { details_in (unit_of unit parts.old) ≤ max_details }
-    ensures { Does (rules_of index.now) (step_line (rules_of index.now) n (line_of line.entry) (unit_of unit parts.old)) (unit_of result.unit parts.new) (told_by result) table.old table.new }
+    ensures { Does (rules_of index.now.registry.now) (step_line (rules_of index.now.registry.now) n (line_of line.entry) (unit_of unit parts.old)) (unit_of result.unit parts.new) (told_by result) table.old table.new }
 {
     let kind = kind_of(line.body);
     let before = ended_by(kind, unit);

@@ -101,9 +101,9 @@ fn write_cell(
     words: &Words,
     output: &mut [u8],
 ) -> Result<usize, Refusal>
-    requires { Writable index.now at.meter at.day descriptor.now words.now }
-    ensures answer { answers result ≡ length_of (fitting output.old (passed (cell_text index.now at.meter at.channel at.day descriptor.now words.now))) }
-    ensures bytes { output.new ≡ output_with output.old (fitting output.old (passed (cell_text index.now at.meter at.channel at.day descriptor.now words.now))) }
+    requires { Writable index.now.registry.now at.meter at.day descriptor.now words.now }
+    ensures answer { answers result ≡ length_of (fitting output.old (passed (cell_text index.now.registry.now at.meter at.channel at.day descriptor.now words.now))) }
+    ensures bytes { output.new ≡ output_with output.old (fitting output.old (passed (cell_text index.now.registry.now at.meter at.channel at.day descriptor.now words.now))) }
 {
     let id = unpadded(index.id_of(at.meter));
     let owner = unpadded(index.owner_of(at.meter));
@@ -122,8 +122,8 @@ fn write_from(
     descriptor: &[u8],
     output: &mut [u8],
 ) -> Result<usize, Refusal>
-    ensures answer { answers result ≡ length_of (writes index.now table.now at.meter at.channel at.day descriptor.now output.old) }
-    ensures bytes { output.new ≡ output_with output.old (writes index.now table.now at.meter at.channel at.day descriptor.now output.old) }
+    ensures answer { answers result ≡ length_of (writes index.now.registry.now table.now at.meter at.channel at.day descriptor.now output.old) }
+    ensures bytes { output.new ≡ output_with output.old (writes index.now.registry.now table.now at.meter at.channel at.day descriptor.now output.old) }
 {
     let words = find_sound(index, table, at)?;
     require(is_descriptor(descriptor), Refusal::BadDescriptor)?;

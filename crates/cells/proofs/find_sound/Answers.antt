@@ -11,10 +11,10 @@ use Rattle.cells.proofs.Passed.{found-day, day-known}
 use Rattle.cells.proofs.find_sound.Goals as goal
 
 pub returns-in_err-words : goal.returns-in_err-words
-returns-in_err-words c = next-exit refusal_number _ _ c.from_residual.ensures.1 _ ∙ rw (sound_stages c.args.index.now c.args.table.now c.args.at.meter c.args.at.channel c.args.at.day, ← c.in_err-words.ensures)
+returns-in_err-words c = next-exit refusal_number _ _ c.from_residual.ensures.1 _ ∙ rw (sound_stages c.args.index.now.registry.now c.args.table.now c.args.at.meter c.args.at.channel c.args.at.day, ← c.in_err-words.ensures)
 
 pub overflow_cast-at : goal.overflow_cast-at
-overflow_cast-at c = omega (arith, found-day _ _ _ _ c.args.at.day _ (sym c.in_ok-words.ensures), window-most c.args.index.now)
+overflow_cast-at c = omega (arith, found-day _ _ _ _ c.args.at.day _ (sym c.in_ok-words.ensures), window-most c.args.index.now.registry.now)
 
 pub overflow_add-window : goal.overflow_add-window
 overflow_add-window c = omega (arith, found-day _ _ _ _ c.args.at.day _ (sym c.in_ok-words.ensures), window-ends _ _ _ refl c.window.ensures, ap (λ w. w.days) c.window.ensures)
@@ -25,7 +25,7 @@ is_sound-requires c = intervals-few _ _ c.intervals_of-intervals.ensures
 pub returns-in_err-require : goal.returns-in_err-require
 returns-in_err-require c =
     next-exit refusal_number _ _ c.from_residual-in_err-require.ensures.1 _
-    ∙ rw (sound_stages c.args.index.now c.args.table.now c.args.at.meter c.args.at.channel c.args.at.day, ← c.in_ok-words.ensures, ← day-known _ _ _ _ c.args.at.day _ (sym c.in_ok-words.ensures) _ c.window.ensures (window-ends _ _ _ refl c.window.ensures) _ c.intervals_of-intervals.ensures, ← c.is_sound.ensures, ← c.in_err-require.ensures)
+    ∙ rw (sound_stages c.args.index.now.registry.now c.args.table.now c.args.at.meter c.args.at.channel c.args.at.day, ← c.in_ok-words.ensures, ← day-known _ _ _ _ c.args.at.day _ (sym c.in_ok-words.ensures) _ c.window.ensures (window-ends _ _ _ refl c.window.ensures) _ c.intervals_of-intervals.ensures, ← c.is_sound.ensures, ← c.in_err-require.ensures)
 
 pub returns : goal.returns
-returns c = rw (sound_stages c.args.index.now c.args.table.now c.args.at.meter c.args.at.channel c.args.at.day, ← c.in_ok-words.ensures, ← day-known _ _ _ _ c.args.at.day _ (sym c.in_ok-words.ensures) _ c.window.ensures (window-ends _ _ _ refl c.window.ensures) _ c.intervals_of-intervals.ensures, ← c.is_sound.ensures, ← c.in_ok-require.ensures)
+returns c = rw (sound_stages c.args.index.now.registry.now c.args.table.now c.args.at.meter c.args.at.channel c.args.at.day, ← c.in_ok-words.ensures, ← day-known _ _ _ _ c.args.at.day _ (sym c.in_ok-words.ensures) _ c.window.ensures (window-ends _ _ _ refl c.window.ensures) _ c.intervals_of-intervals.ensures, ← c.is_sound.ensures, ← c.in_ok-require.ensures)

@@ -24,10 +24,10 @@ pub meter_checks-requires : goal.meter_checks-requires
 meter_checks-requires c = (found-meter _ _ _ (sym c.find.ensures ∙ c.in_ok-meter.ensures.ok_part)).0
 
 pub overflow_add-number : goal.overflow_add-number
-overflow_add-number c = omega (arith, (found-meter _ _ _ (sym c.find.ensures ∙ c.in_ok-meter.ensures.ok_part)).0, meters-most c.args.index.now)
+overflow_add-number c = omega (arith, (found-meter _ _ _ (sym c.find.ensures ∙ c.in_ok-meter.ensures.ok_part)).0, meters-most c.args.index.now.registry.now)
 
 pub overflow_cast-number : goal.overflow_cast-number
-overflow_cast-number c = omega (arith, (found-meter _ _ _ (sym c.find.ensures ∙ c.in_ok-meter.ensures.ok_part)).0, meters-most c.args.index.now)
+overflow_cast-number c = omega (arith, (found-meter _ _ _ (sym c.find.ensures ∙ c.in_ok-meter.ensures.ok_part)).0, meters-most c.args.index.now.registry.now)
 
 pub returns-in_err-day : goal.returns-in_err-day
 unfolding judge

@@ -9,7 +9,7 @@ use Rattle.writer.proofs.write_cell.Goals as goal
 
 pub overflow_add-window : goal.overflow_add-window
 overflow_add-window c =
-    omega (arith, c.requires.day, window-most c.args.index.now, window-last c.args.index.now, ap (λ w. w.first) c.window.ensures, ap (λ w. w.days) c.window.ensures)
+    omega (arith, c.requires.day, window-most c.args.index.now.registry.now, window-last c.args.index.now.registry.now, ap (λ w. w.first) c.window.ensures, ap (λ w. w.days) c.window.ensures)
 
 pub put_record-requires : goal.put_record-requires
 put_record-requires c =

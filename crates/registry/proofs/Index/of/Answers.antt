@@ -33,4 +33,4 @@ loop-at-preserved c =
     walk_meter c.loop-at.invariant c.loop-at-test.true _ c.kind_at.ensures _ c.in-Some-kind_at.is c.in-Meter.is _ c.in_order.ensures _ c.unwrap.ensures c.if-not-in_order.false
 
 pub invariant_of-result : goal.invariant_of-result
-invariant_of-result c = index-whole _ _ _ _ c.loop-at.invariant c.loop-at-test.false
+invariant_of-result c = record { holds = index-whole _ _ _ _ c.loop-at.invariant c.loop-at-test.false }

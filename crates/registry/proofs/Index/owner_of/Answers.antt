@@ -4,5 +4,5 @@ use native.Mathlib.Omega.{arith}
 use Rattle.registry.proofs.Laws.{meters-most}
 use Rattle.registry.proofs.Index.owner_of.Goals as goal
 
-pub offset_bounds-self-inside-meter : goal.offset_bounds-self-inside-meter
-offset_bounds-self-inside-meter c = omega (arith, meters-most c.args.self.now, c.requires)
+pub offset_bounds-self-meter : goal.offset_bounds-self-meter
+offset_bounds-self-meter c = omega (arith, meters-most c.args.self.now.registry.now, c.requires)

@@ -4,7 +4,7 @@ use Rattle.registry.proofs.Halves.{bracket_all, bracket_none, bracket_found, bra
 use Rattle.registry.proofs.Index.search.Goals as goal
 
 pub loop-low-init : goal.loop-low-init
-loop-low-init c = bracket_all _ _ _ (rw c.self.view_is at c.self.invariant.counted)
+loop-low-init c = bracket_all _ _ _ (c.args.self.now.holds.counted)
 
 pub id_of-requires : goal.id_of-requires
 id_of-requires c = middle-within _ _ _ _ c.loop-low.invariant c.loop-low-test.true
